@@ -1,0 +1,21 @@
+-- Laws that name nothing of ours, in reading order. Assumes nothing.
+-- tests and what they say
+pub mod Tests
+-- entries of lists, and tests over all of them
+pub mod Entries
+-- searches for the first fault
+pub mod Searches
+-- entries by their place
+pub mod Places
+-- a function repeated until nothing changes
+pub mod Repeats
+-- parts of lists
+pub mod Ranges
+-- a number that stands twice
+pub mod Twice
+-- how many entries pass a test
+pub mod Counting
+-- orders and sums of integers
+pub mod Integers
+-- integers of 64 bits
+pub mod Signed

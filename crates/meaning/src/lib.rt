@@ -1,0 +1,1 @@
+// No code: the crate holds definitions and laws alone.
