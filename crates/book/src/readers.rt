@@ -1,0 +1,95 @@
+// Numbers of a book, little-endian, and where its tables stand.
+ghost use mathlib.Core.Path.{_≡_};
+ghost use Prim.Native.Nat.{_+_, _*_, _^_, _<_, _≤_};
+ghost use lib.IntN.{natAbs};
+ghost use lib.ListN.{length, getD};
+ghost use Rattle.meaning.specs.Format.{contents, countOf, i32At, limits, offsetOf, signed, sizes, u16At, u32At, u8At};
+ghost use Rattle.book.specs.Framed.{Framed, Place};
+
+// Bytes of a record of the tables 1 to 6, and then most records.
+const SIZES: [usize; 6] = [2, 3, 6, 3, 10, 7];
+
+const LIMITS: [usize; 6] = [128, 2048, 2048, 4096, 512, 4096];
+
+fn wide(x: u8) -> usize
+    ensures { λ r. ⌜ (r ≡ x) × (r < 256) ⌝ }
+{
+    x as usize
+}
+
+pub(crate) fn byte(book: &[u8], i: usize) -> usize
+    requires { ⌜ i < length (now book) ⌝ }
+    ensures { λ r. ⌜ (r ≡ u8At (now (book .entry)) i) × (r < 256) ⌝ }
+{
+    wide(book[i])
+}
+
+pub(crate) fn word(book: &[u8], i: usize) -> usize
+    requires { ⌜ i + 2 ≤ length (now book) ⌝ }
+    ensures { λ r. ⌜ (r ≡ u16At (now (book .entry)) i) × (r < 2 ^ 16) ⌝ }
+{
+    byte(book, i) + 256 * byte(book, i + 1)
+}
+
+fn long(book: &[u8], i: usize) -> usize
+    requires { ⌜ i + 4 ≤ length (now book) ⌝ }
+    ensures { λ r. ⌜ (r ≡ u32At (now (book .entry)) i) × (r < 2 ^ 32) ⌝ }
+{
+    word(book, i) + 65536 * word(book, i + 2)
+}
+
+// Two's complement of 32 bits.
+fn signed_of(x: usize) -> i64
+    requires { ⌜ x < 2 ^ 32 ⌝ }
+    ensures { λ r. ⌜ (r ≡ signed x) × (natAbs r ≤ 2 ^ 31) ⌝ }
+{
+    if x < 2147483648 {
+        x as i64
+    } else {
+        (x as i64) - 4294967296
+    }
+}
+
+pub(crate) fn signed_at(book: &[u8], i: usize) -> i64
+    requires { ⌜ i + 4 ≤ length (now book) ⌝ }
+    ensures { λ r. ⌜ (r ≡ i32At (now (book .entry)) i) × (natAbs r ≤ 2 ^ 31) ⌝ }
+{
+    signed_of(long(book, i))
+}
+
+pub(crate) fn size_of(k: usize) -> usize
+    requires { ⌜ k < 6 ⌝ }
+    ensures { λ r. ⌜ r ≡ getD sizes k 0 ⌝ }
+{
+    SIZES[k]
+}
+
+pub(crate) fn limit_of(k: usize) -> usize
+    requires { ⌜ k < 6 ⌝ }
+    ensures { λ r. ⌜ r ≡ getD limits k 0 ⌝ }
+{
+    LIMITS[k]
+}
+
+// The table of contents, its entries numbered from 0.
+pub(crate) fn offset_of(book: &[u8], k: usize) -> usize
+    requires { ⌜ (contents ≤ length (now book)) × (k < 6) ⌝ }
+    ensures { λ r. ⌜ (r ≡ offsetOf (now (book .entry)) k) × (r < 2 ^ 32) ⌝ }
+{
+    long(book, 8 * k)
+}
+
+pub fn count_of(book: &[u8], k: usize) -> usize
+    requires { ⌜ (contents ≤ length (now book)) × (k < 6) ⌝ }
+    ensures { λ r. ⌜ (r ≡ countOf (now (book .entry)) k) × (r < 2 ^ 32) ⌝ }
+{
+    long(book, 8 * k + 4)
+}
+
+// Where a record stands. The offset is in the contents, so nothing is added up.
+pub(crate) fn place(book: &[u8], k: usize, i: usize) -> usize
+    requires { ⌜ Framed (now book) × (k < 6) × (i < countOf (now book) k) ⌝ }
+    ensures { λ r. ⌜ Place (now (book .entry)) k i r ⌝ }
+{
+    offset_of(book, k) + size_of(k) * i
+}
