@@ -1,0 +1,208 @@
+-- Hypotheses and rule bodies: a hypothesis by its sort, what one more makes of a body, and that a body judged with the
+-- comparisons' truths known is document 01's. Assumes nothing.
+use mathlib.Core.Path.{_≡_, refl, sym, ap, ap₂, _∙_}
+use mathlib.Core.Logic.{inl, inr}
+use mathlib.Core.Bool.{cond}
+use mathlib.Core.List.{List, [], _∷_, _++_, map}
+use Prim.Native.Nat.{ℕ, zero, suc, _+_, _<_, _≤_}
+use native.Mathlib.Omega.{arith}
+use lib.Dec.{ltb}
+use lib.ListN.{length, getD, take}
+use lib.Seq.{getD-drop, getD-take, length-slice}
+use borrow.Author.Tests.{le-ltb, lt-ltb}
+use Rattle.laws.specs.Lists.{In}
+use Rattle.laws.proofs.Entries.{in-drop, in-getD, in-take}
+use Rattle.theory.specs.Truth.{Truth}
+use Rattle.theory.specs.Answers.{Answers}
+use Rattle.meaning.specs.Format.{HypothesisRecord, body, countOf, hypothesisAt, noHypothesis, tables}
+use Rattle.meaning.specs.Reading.{codeOf, hypothesisOf, literalOf, range, ruleOf, truthOf}
+use Rattle.meaning.specs.Reading as reading
+use Rattle.meaning.specs.Truth.{bodyTruth, comparisonTruth, hypothesisTruth, literalTruth, meet}
+use Rattle.meaning.proofs.Bytes.{body-length}
+use Rattle.book.specs.Framed.{Indexed}
+use Rattle.book.specs.Records.{comparisonRead, hypothesisIn, ruleIn}
+use Rattle.judge.specs.Held.{held, recordTruth, recordsTruth, ruleRecords, sortTruth}
+use Rattle.judge.proofs.Lasts.{slice-more, slice-none}
+use Rattle.judge.proofs.CodeLaws.{code-back, rest-undefined}
+
+-- where a hypothesis points: among the atoms by sorts 0 and 1, else among the comparisons
+module _
+    (b W : List ℕ)
+    (h s i : ℕ)
+    (I : Indexed b)
+    (l : h < countOf b 3)
+    (es : s ≡ hypothesisIn b h .sort)
+    (ei : i ≡ hypothesisIn b h .index) where
+  index-within : i < cond (ltb s 2) (countOf b 1) (countOf b 4)
+  index-within = rw (es, ei) (I .hypothesis h l)
+
+  pub atom-of : countOf b 1 ≤ length W → s < 2 → i < length W
+  atom-of m n = let p = rw (lt-ltb s 2 n) at index-within in omega (arith, p, m)
+
+  pub comparison-of : countOf b 4 ≤ length W → 2 ≤ s → i < length W
+  comparison-of m n = let p = rw (le-ltb s 2 n) at index-within in omega (arith, p, m)
+
+-- its truth, by its sort
+literal-sort : (A K : Answers) (s i : ℕ) → s < 2 → literalTruth A (literalOf s i) ≡ sortTruth A K s i
+unfolding literalTruth
+literal-sort A K zero i l = refl
+literal-sort A K (suc zero) i l = refl
+literal-sort A K (suc (suc s)) i l = absurd (omega (arith, l))
+
+known-sort : (A K : Answers) (s i : ℕ) → 2 ≤ s → K i ≡ sortTruth A K s i
+known-sort A K zero i l = absurd (omega (arith, l))
+known-sort A K (suc zero) i l = absurd (omega (arith, l))
+known-sort A K (suc (suc s)) i l = refl
+
+module _ (b W K : List ℕ) (h s i x : ℕ) (es : s ≡ hypothesisIn b h .sort) (ei : i ≡ hypothesisIn b h .index) where
+  pub literal-is : s < 2 → x ≡ codeOf (literalTruth (held W) (literalOf s i)) →
+      x ≡ codeOf (recordTruth (held W) (held K) (hypothesisIn b h))
+  literal-is l e = e ∙ rw (← es, ← ei) (ap codeOf (literal-sort (held W) (held K) s i l))
+
+  pub known-is : 2 ≤ s → x ≡ codeOf (held K i) → x ≡ codeOf (recordTruth (held W) (held K) (hypothesisIn b h))
+  known-is l e = e ∙ rw (← es, ← ei) (ap codeOf (known-sort (held W) (held K) s i l))
+
+pub ruleset sorts = (atom-of, comparison-of, literal-is, known-is)
+
+-- meets
+meet-true : (x : Truth) → meet x Truth.true ≡ x
+meet-true Truth.undefined = refl
+meet-true Truth.true = refl
+meet-true Truth.false = refl
+
+meet-false : (x : Truth) → meet x Truth.false ≡ Truth.false
+meet-false Truth.undefined = refl
+meet-false Truth.true = refl
+meet-false Truth.false = refl
+
+-- what is not false stays open beside something undefined
+open-meet : (x : Truth) → codeOf x < 2 → meet x Truth.undefined ≡ Truth.undefined
+open-meet Truth.undefined l = refl
+open-meet Truth.true l = refl
+open-meet Truth.false l = absurd (omega (arith, l))
+
+meet-assoc : (x y z : Truth) → meet (meet x y) z ≡ meet x (meet y z)
+meet-assoc Truth.true y z = refl
+meet-assoc Truth.false y z = refl
+meet-assoc Truth.undefined Truth.true z = refl
+meet-assoc Truth.undefined Truth.false z = refl
+meet-assoc Truth.undefined Truth.undefined Truth.undefined = refl
+meet-assoc Truth.undefined Truth.undefined Truth.true = refl
+meet-assoc Truth.undefined Truth.undefined Truth.false = refl
+
+module _ (A K : Answers) where
+  -- one hypothesis more
+  records-more : (hs : List HypothesisRecord) (h : HypothesisRecord) →
+      recordsTruth A K (hs ++ h ∷ []) ≡ meet (recordsTruth A K hs) (recordTruth A K h)
+  unfolding recordsTruth
+  records-more [] h = meet-true (recordTruth A K h)
+  records-more (y ∷ hs) h =
+      ap (meet (recordTruth A K y)) (records-more hs h) ∙
+      sym (meet-assoc (recordTruth A K y) (recordsTruth A K hs) (recordTruth A K h))
+
+  -- one that is false
+  records-false : (hs : List HypothesisRecord) (i : ℕ) → i < length hs →
+      recordTruth A K (getD hs i noHypothesis) ≡ Truth.false → recordsTruth A K hs ≡ Truth.false
+  unfolding recordsTruth
+  records-false [] i l e = absurd (omega (arith, l))
+  records-false (h ∷ hs) zero l e = rw e
+  records-false (h ∷ hs) (suc i) l e =
+      ap (meet (recordTruth A K h)) (records-false hs i (omega (arith, l)) e) ∙ meet-false (recordTruth A K h)
+
+-- a rule's hypotheses are in their table
+pub rule-within : (b : List ℕ) (r first n i : ℕ) → Indexed b → r < countOf b 2 → first ≡ ruleIn b r .first →
+    n ≡ ruleIn b r .many → i < n → first + i < countOf b 3
+rule-within b r first n i I l p q m = omega (arith, I .rule r l, p, q, m)
+
+-- what the first i hypotheses of a rule come to
+module _ (b W K : List ℕ) (first : ℕ) where
+  unfoldable pub bodyTo : ℕ → Truth
+  bodyTo i = recordsTruth (held W) (held K) (range first i (tables b .hypotheses))
+
+  pub body-start : 1 ≡ codeOf (bodyTo 0)
+  unfolding bodyTo recordsTruth
+  body-start = rw (slice-none first (tables b .hypotheses))
+
+  count-is : length (tables b .hypotheses) ≡ countOf b 3
+  unfolding tables
+  count-is = body-length hypothesisAt b 3
+
+  module _
+      (r n i x : ℕ)
+      (I : Indexed b)
+      (l : r < countOf b 2)
+      (ef : first ≡ ruleIn b r .first)
+      (en : n ≡ ruleIn b r .many)
+      (m : i < n)
+      (ex : x ≡ codeOf (recordTruth (held W) (held K) (hypothesisIn b (first + i)))) where
+    all-within : first + n ≤ length (tables b .hypotheses)
+    all-within = omega (arith, I .rule r l, ef, en, count-is)
+
+    truth-of : truthOf x ≡ recordTruth (held W) (held K) (hypothesisIn b (first + i))
+    truth-of = ap truthOf ex ∙ code-back _
+
+    body-more : bodyTo (i + 1) ≡ meet (bodyTo i) (truthOf x)
+    unfolding bodyTo
+    body-more =
+        ap (recordsTruth (held W) (held K))
+        (slice-more noHypothesis first i (tables b .hypotheses) (omega (arith, all-within, m))) ∙
+        records-more (held W) (held K) (range first i (tables b .hypotheses)) (hypothesisIn b (first + i)) ∙
+        ap (meet (recordsTruth (held W) (held K) (range first i (tables b .hypotheses)))) (sym truth-of)
+
+    pub body-true : (y : ℕ) → y ≡ codeOf (bodyTo i) → x ≡ 1 → y ≡ codeOf (bodyTo (i + 1))
+    body-true y ey e = rw (body-more, e, meet-true) ey
+
+    pub body-undefined : (y : ℕ) → y ≡ codeOf (bodyTo i) → y < 2 → (x ≡ 1 → ⊥) → (x ≡ 2 → ⊥) →
+        0 ≡ codeOf (bodyTo (i + 1))
+    body-undefined y ey s p q =
+        rw (body-more, rest-undefined x p q, open-meet (bodyTo i) (omega (arith, ey, s)))
+
+    pub body-false : x ≡ 2 → 2 ≡ codeOf (recordsTruth (held W) (held K) (ruleRecords b r))
+    body-false e =
+        ap codeOf (sym (records-false (held W) (held K) (ruleRecords b r) i
+        (rw (← ef, ← en) (omega (arith, length-slice first (first + n) (tables b .hypotheses) all-within, m)))
+        (rw (← ef, ← en)
+        (ap (recordTruth (held W) (held K))
+        (getD-drop first (take (first + n) (tables b .hypotheses)) i noHypothesis ∙
+        getD-take (first + n) (tables b .hypotheses) (first + i) noHypothesis (omega (arith, m))) ∙
+        sym truth-of ∙ ap truthOf e))))
+
+  pub body-end : (r n i y : ℕ) → first ≡ ruleIn b r .first → n ≡ ruleIn b r .many → i ≤ n → n ≤ i →
+      y ≡ codeOf (bodyTo i) → y ≡ codeOf (recordsTruth (held W) (held K) (ruleRecords b r))
+  unfolding bodyTo
+  body-end r n i y ef en l m e =
+      let same : i ≡ n = omega (arith, l, m) in
+      e ∙ rw (same, ef, en)
+
+pub ruleset bodies = (rule-within, body-start, body-true, body-undefined, body-false, body-end)
+
+-- A body judged with the comparisons' truths known is document 01's.
+module _
+    (b : List ℕ)
+    (A K : Answers)
+    (I : Indexed b)
+    (known : (c : ℕ) → c < countOf b 4 → K c ≡ comparisonTruth A (comparisonRead b c)) where
+  sort-is : (s i : ℕ) → i < cond (ltb s 2) (countOf b 1) (countOf b 4) →
+      sortTruth A K s i ≡ hypothesisTruth A (hypothesisOf (tables b) s i)
+  unfolding hypothesisTruth hypothesisOf literalTruth
+  sort-is zero i l = refl
+  sort-is (suc zero) i l = refl
+  sort-is (suc (suc s)) i l = known i (rw (le-ltb (suc (suc s)) 2 (omega arith)) at l)
+
+  records-body : (hs : List HypothesisRecord) → ((h : HypothesisRecord) → In h hs → In h (tables b .hypotheses)) →
+      recordsTruth A K hs ≡ bodyTruth A (map (reading.hypothesisIn (tables b)) hs)
+  unfolding recordsTruth bodyTruth
+  records-body [] e = refl
+  records-body (h ∷ hs) e =
+      let (i, l, p) = in-getD noHypothesis (tables b .hypotheses) h (e h (inl refl)) in
+      let at = rw p at (I .hypothesis i (omega (arith, l, count-is b b b 0))) in
+      ap₂ meet (sort-is (h .sort) (h .index) at) (records-body hs (λ x j. e x (inr j)))
+
+  pub known-body : (r : ℕ) → r < countOf b 2 →
+      recordsTruth A K (ruleRecords b r) ≡ bodyTruth A (ruleOf (tables b) (ruleIn b r) .body)
+  unfolding ruleOf
+  known-body r l =
+      let past = ruleIn b r .first + ruleIn b r .many in
+      records-body (ruleRecords b r)
+      (λ h j. in-take past (tables b .hypotheses) h
+      (in-drop (ruleIn b r .first) (take past (tables b .hypotheses)) h j))

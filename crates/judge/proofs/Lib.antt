@@ -1,0 +1,19 @@
+-- Laws of the judgement, in reading order. Assumes nothing.
+-- the size of a sum
+pub mod Sizes
+-- the last entry of a list
+pub mod Lasts
+-- truths and their codes
+pub mod CodeLaws
+-- relations and their codes
+pub mod TableLaws
+-- ranges of elements
+pub mod RangeLaws
+-- what an element is and weighs
+pub mod ElementLaws
+-- count and sum
+pub mod SumLaws
+-- max and min
+pub mod ExtremeLaws
+-- hypotheses and rule bodies
+pub mod BodyLaws
