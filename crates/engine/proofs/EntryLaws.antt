@@ -1,0 +1,77 @@
+-- The entry: what a passed check gives, and that its number and its room are the outcome's. Assumes nothing.
+use mathlib.Core.Path.{_≡_, refl, sym, ap, _∙_}
+use mathlib.Core.List.{List}
+use Prim.Native.Nat.{ℕ, _≤_}
+use native.Mathlib.Omega.{arith}
+use lib.ListN.{length, take}
+use Rattle.meaning.specs.Format.{contents, countOf, tables}
+use Rattle.meaning.specs.Reading.{levelsOf, reading}
+use Rattle.meaning.specs.Refusal.{refusal, refusals}
+use Rattle.meaning.specs.Demands.{Accepted}
+use Rattle.meaning.specs.Outcome.{Outcome, modelOf, outcome, written}
+use Rattle.meaning.proofs.Absent.{none-each}
+use Rattle.meaning.proofs.Bytes.{atoms-length}
+use Rattle.meaning.proofs.Rooms.{accepted, refused, room-enough}
+use Rattle.book.specs.Verdicts.{packedOf, verdictOf}
+use Rattle.book.specs.declared.verdict.Verdict.{Verdict}
+use Rattle.book.specs.declared.verdict.Verdict.the-variants.{Passed, Refused}
+use Rattle.book.proofs.FrameLaws.{framed}
+use Rattle.book.proofs.IndexLaws.{indexed}
+use Rattle.book.proofs.VerdictLaws.{passed-none, refused-some}
+use Rattle.engine.specs.Work.{Ready, answersIn}
+use Rattle.engine.proofs.StrikeLaws.{prefix-count, prefix-length, prefix-room}
+
+-- an accepted book can be worked on
+accepted-ready : (b : List ℕ) (n : ℕ) → Accepted b n → Ready b
+unfolding refusal
+accepted-ready b n e =
+    let t = tables b in
+    let (r1, (r2, (r3, (_, (r5, _))))) = none-each (refusals b t (reading t) (levelsOf t) n) e in
+    record { framed = framed b (rw (r1, r2, r3) refl); indexed = indexed b r5 }
+
+module _ (b room : List ℕ) (v : Verdict) (e : v ≡ verdictOf (refusal b (length room))) where
+  module _ (p : v ≡ Passed) where
+    passed : Accepted b (length room)
+    passed = passed-none (refusal b (length room)) v e p
+
+    pub passed-ready : Ready b
+    passed-ready = accepted-ready b (length room) passed
+
+    pub passed-long : contents ≤ length b
+    passed-long = passed-ready .framed .long
+
+    pub passed-room : (L : List ℕ) (k : ℕ) → k ≡ countOf b 1 → length L ≡ 2048 → length (take k L) ≤ length room
+    passed-room L k q l =
+        omega (arith, prefix-length b k passed-ready L q l, atoms-length b, room-enough b (length room) passed)
+
+    pub passed-number : 0 ≡ outcome b room .number
+    passed-number = sym (ap (λ (o : Outcome). o .number) (accepted b room passed))
+
+    pub passed-writes : (L after : List ℕ) (k : ℕ) → k ≡ countOf b 1 → answersIn (take (countOf b 1) L) ≡ modelOf b →
+        after ≡ written (answersIn (take k L)) room → after ≡ outcome b room .room
+    passed-writes L after k q m w =
+        w ∙ ap (λ (i : ℕ). written (answersIn (take i L)) room) q ∙ ap (λ A. written A room) m ∙
+        sym (ap (λ (o : Outcome). o .room) (accepted b room passed))
+
+  module _ (n t i : ℕ) (p : v ≡ Refused n t i) where
+    pub refused-number : (x : ℕ) → x ≡ packedOf v → x ≡ outcome b room .number
+    refused-number x q =
+        let (r, f) = refused-some (refusal b (length room)) v n t i e p in
+        q ∙ ap packedOf (e ∙ ap verdictOf f) ∙ sym (ap (λ (o : Outcome). o .number) (refused b room r f))
+
+    pub refused-room : room ≡ outcome b room .room
+    refused-room =
+        let (r, f) = refused-some (refusal b (length room)) v n t i e p in
+        sym (ap (λ (o : Outcome). o .room) (refused b room r f))
+
+pub ruleset entering = (
+  prefix-room,
+  prefix-count,
+  passed-ready,
+  passed-long,
+  passed-room,
+  passed-number,
+  passed-writes,
+  refused-number,
+  refused-room,
+)

@@ -1,0 +1,67 @@
+// Levels from 0 upward; each starts from the lower levels' answers and the given atoms.
+ghost use mathlib.Core.Path.{_≡_};
+ghost use Prim.Native.Nat.{_<_};
+ghost use lib.ListN.{length, take};
+ghost use Rattle.meaning.specs.Format.{countOf};
+ghost use Rattle.meaning.specs.Outcome.{modelOf};
+ghost use Rattle.engine.specs.Work.{Ready, answersIn};
+ghost use Rattle.engine.specs.Turns.{Levelled};
+use crate::levels::busy;
+use crate::levels::close_level;
+use crate::levels::given_answers;
+use crate::rounds::Work;
+use crate::rounds::rounds;
+use book::readers::count_of;
+
+// One level, and its closing if it is certain.
+fn work_level(
+    book: &[u8],
+    level: usize,
+    before: [u8; 2048],
+    order: [u16; 2048],
+    used: usize,
+) -> Work
+    requires { ⌜ Ready (now book) ⌝ }
+    ensures { λ r. ⌜ Levelled (now (book .entry)) level (take (countOf (now (book .entry)) 1) before) (r .answers) ⌝ }
+{
+    let n = count_of(book, 1);
+    if busy(book, &before[..n], level) {
+        let rested = rounds(book, level, before, order, used);
+        let answers = rested.answers;
+        let list = rested.order;
+        let end = rested.used;
+        let closed = close_level(book, &answers[..n], level);
+        return Work {
+            answers: closed,
+            changed: false,
+            order: list,
+            used: end,
+        };
+    }
+    Work {
+        answers: before,
+        changed: false,
+        order,
+        used,
+    }
+}
+
+// The model of a book.
+pub fn solve(book: &[u8]) -> [u8; 2048]
+    requires { ⌜ Ready (now book) ⌝ }
+    ensures { λ r. ⌜ (length r ≡ 2048) × (answersIn (take (countOf (now (book .entry)) 1) r) ≡ modelOf
+        (now (book .entry))) ⌝ }
+{
+    let mut answers = given_answers(book);
+    let mut list = [0u16; 2048];
+    let mut end = 0;
+    let mut level = 0;
+    while level < 128 {
+        let worked = work_level(book, level, answers, list, end);
+        answers = worked.answers;
+        list = worked.order;
+        end = worked.used;
+        level += 1;
+    }
+    answers
+}
