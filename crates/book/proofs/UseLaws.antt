@@ -1,7 +1,7 @@
 -- Checks 9 to 11: the tests of one use, and the searches through a comparison's elements and by a hypothesis's sort.
 -- Assumes nothing.
 use mathlib.Core.Path.{_≡_, refl, sym, _∙_}
-use mathlib.Core.Bool.{Bool, true, false, not, _&&_, _||_}
+use mathlib.Core.Bool.{Bool, true, false, not, _&&_}
 use mathlib.Core.List.{List}
 use Prim.Native.Nat.{ℕ, zero, suc, _+_, _<_, _≤_}
 use native.Mathlib.Omega.{arith}
@@ -12,6 +12,7 @@ use lib.Seq.{slice}
 use borrow.Author.Tests.{le-ltb, lt-ltb, ne-eqb}
 use Rattle.laws.specs.Lists.{any}
 use Rattle.laws.proofs.Ranges.{NoneBetween, any-map, between-next, between-start, slice-none, slice-some}
+use Rattle.laws.proofs.Tests.{or-none}
 use Rattle.meaning.specs.Format.{ElementRecord, countOf, noElement, tables}
 use Rattle.meaning.specs.Reading.{comparisonOf, elementOf, elementsOf, hypothesisOf, isCertain, literalOf}
 use Rattle.meaning.specs.Refusal.{Use, elementUse, positiveIn, usesOf}
@@ -119,10 +120,6 @@ element-atom-in b end e a I l m q = rw q (I .element e (omega (arith, l, m)))
 pub ruleset elements =
     (between-start, between-next, element-at, elements-in, elements-found, elements-none, element-atom-in)
 
-or-false : (a : Bool) → (a || false) ≡ a
-or-false true = refl
-or-false false = refl
-
 -- a hypothesis of sort s that points at i
 module _ (b : List ℕ) (h s i : ℕ) (p : s ≡ hypothesisIn b h .sort) (q : i ≡ hypothesisIn b h .index) where
   -- what it uses
@@ -130,12 +127,12 @@ module _ (b : List ℕ) (h s i : ℕ) (p : s ≡ hypothesisIn b h .sort) (q : i 
     pub by-atom : s ≡ 0 → v ≡ useFault b check head (record { atom = i; positive = true }) →
         v ≡ hypothesisFault b check head h
     unfolding hypothesisFault usesOf hypothesisOf
-    by-atom e r = r ∙ rw (← p, e, q) (sym (or-false _))
+    by-atom e r = r ∙ rw (← p, e, q) (sym (or-none _))
 
     pub by-negation : s ≡ 1 → v ≡ useFault b check head (record { atom = i; positive = false }) →
         v ≡ hypothesisFault b check head h
     unfolding hypothesisFault usesOf hypothesisOf
-    by-negation e r = r ∙ rw (← p, e, q) (sym (or-false _))
+    by-negation e r = r ∙ rw (← p, e, q) (sym (or-none _))
 
     pub by-comparison : (s ≡ 0 → ⊥) → (s ≡ 1 → ⊥) → v ≡ comparisonFault b check head i →
         v ≡ hypothesisFault b check head h

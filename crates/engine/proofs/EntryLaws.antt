@@ -18,8 +18,8 @@ use Rattle.book.specs.declared.verdict.Verdict.the-variants.{Passed, Refused}
 use Rattle.book.proofs.FrameLaws.{framed}
 use Rattle.book.proofs.IndexLaws.{indexed}
 use Rattle.book.proofs.VerdictLaws.{passed-none, refused-some}
-use Rattle.engine.specs.Work.{Ready, answersIn}
-use Rattle.engine.proofs.StrikeLaws.{prefix-count, prefix-length, prefix-room}
+use Rattle.steps.specs.Work.{Ready, answersIn}
+use Rattle.steps.proofs.WorkLaws.{prefix-count, prefix-length, prefix-room}
 
 -- an accepted book can be worked on
 accepted-ready : (b : List ℕ) (n : ℕ) → Accepted b n → Ready b

@@ -9,9 +9,10 @@ use native.Mathlib.Omega.{arith}
 use lib.Dec.{eqb}
 use lib.ListN.{length, getD, length-map, take}
 use lib.Seq.{ext-getD}
-use Rattle.laws.specs.Lists.{mapAt, times}
+use Rattle.laws.specs.Lists.{anyTo, mapAt, times}
 use Rattle.laws.proofs.Entries.{map-at}
 use Rattle.laws.proofs.Places.{mapAt-at, mapAt-length}
+use Rattle.laws.proofs.Numbers.{any-none}
 use Rattle.laws.proofs.Repeats.{times-fixed}
 use Rattle.laws.proofs.Searches.{NoneTo}
 use Rattle.theory.specs.Truth.{Truth, isUndefined}
@@ -21,10 +22,10 @@ use Rattle.meaning.specs.Model.{close, closing, level, levelsBelow, model, next
 use Rattle.meaning.specs.Outcome.{modelOf}
 use Rattle.book.specs.Records.{levelRead}
 use Rattle.judge.specs.Held.{held}
-use Rattle.engine.specs.Work.{Ready, answersIn, levelsIn, rulesIn}
-use Rattle.engine.specs.Rounds.{pendingIn}
+use Rattle.steps.specs.Work.{Ready, answersIn, levelsIn, rulesIn}
+use Rattle.steps.specs.Round.{pendingIn}
 use Rattle.engine.specs.Turns.{Levelled, Rested}
-use Rattle.engine.proofs.StrikeLaws.{prefix-count, prefix-length, prefix-room}
+use Rattle.steps.proofs.WorkLaws.{prefix-count, prefix-length, prefix-room}
 
 -- a map that leaves each entry leaves the list
 mapAt-same : (f : ℕ → Truth → Truth) (A : List Truth) →
@@ -64,12 +65,12 @@ module _ (b : List ℕ) (n : ℕ) (L : List ℕ) (s : length L ≡ countOf b 1) 
 
 -- the level's two ways, where the code has read the number of atoms
 module _ (b : List ℕ) (k n : ℕ) (before : List ℕ) (e : k ≡ countOf b 1) (F : Ready b) (l : length before ≡ 2048) where
-  pub level-idle : (v : Bool) → (v ≡ false → NoneTo (pendingIn b n (take k before)) (countOf b 1)) → v ≡ false →
+  pub level-idle : (v : Bool) → v ≡ anyTo (pendingIn b n (take k before)) (countOf b 1) → v ≡ false →
       Levelled b n (take (countOf b 1) before) before
   level-idle v h f = record {
     long = l;
     is = sym (idle-level b n (take (countOf b 1) before) (prefix-length b (countOf b 1) F before refl l)
-        (subst (λ (i : ℕ). NoneTo (pendingIn b n (take i before)) (countOf b 1)) e (h f)));
+        (any-none _ _ (subst (λ (i : ℕ). anyTo (pendingIn b n (take i before)) (countOf b 1) ≡ false) e (sym h ∙ f))));
   }
 
   pub level-worked : (rest after : List ℕ) → Rested b n (take (countOf b 1) before) rest → length after ≡ 2048 →

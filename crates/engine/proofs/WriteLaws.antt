@@ -13,7 +13,7 @@ use Rattle.meaning.specs.Reading.{codeOf, truthOf}
 use Rattle.meaning.specs.Outcome.{written}
 use Rattle.meaning.proofs.Rooms.{written-fills}
 use Rattle.judge.specs.Held.{held}
-use Rattle.engine.specs.Work.{answersIn}
+use Rattle.steps.specs.Work.{answersIn}
 
 pub record Filling (L room now : List ℕ) (i : ℕ) : Type 0 where
   pub long : length now ≡ length room

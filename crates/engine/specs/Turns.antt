@@ -1,20 +1,12 @@
--- What a round and the rounds of a level leave. Assumes nothing.
+-- What the rounds of a level and a level leave. Assumes nothing.
 use mathlib.Core.Path.{_≡_}
-use mathlib.Core.Bool.{Bool, true, false}
 use mathlib.Core.List.{List}
 use Prim.Native.Nat.{ℕ}
 use lib.ListN.{length, take}
 use Rattle.laws.specs.Lists.{times}
 use Rattle.meaning.specs.Format.{countOf}
 use Rattle.meaning.specs.Model.{level, round}
-use Rattle.engine.specs.Work.{answersIn, levelsIn, rulesIn}
-
--- the model's round at the answers L, and whether it changes anything
-pub record Turn (b : List ℕ) (n : ℕ) (L after : List ℕ) (changed : Bool) : Type 0 where
-  pub long : length after ≡ 2048
-  pub is : answersIn (take (countOf b 1) after) ≡ round (rulesIn b) (levelsIn b) n (answersIn L)
-  pub rests : changed ≡ false → round (rulesIn b) (levelsIn b) n (answersIn L) ≡ answersIn L
-  pub moves : changed ≡ true → round (rulesIn b) (levelsIn b) n (answersIn L) ≡ answersIn L → ⊥
+use Rattle.steps.specs.Work.{answersIn, levelsIn, rulesIn}
 
 -- as many rounds as there are atoms
 pub record Rested (b : List ℕ) (n : ℕ) (L after : List ℕ) : Type 0 where

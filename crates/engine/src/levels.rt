@@ -1,28 +1,27 @@
 // What stands beside the rounds of a level: is there anything to decide, the closing of a certain level, the given
 // answers.
 ghost use mathlib.Core.Path.{_≡_};
-ghost use mathlib.Core.Bool.{Bool, false};
 ghost use Prim.Native.Nat.{_<_};
 ghost use lib.ListN.{length, take};
-ghost use Rattle.laws.proofs.Searches.{NoneTo};
+ghost use Rattle.laws.specs.Lists.{anyTo};
 ghost use Rattle.meaning.specs.Format.{countOf, tables};
 ghost use Rattle.meaning.specs.Reading.{codeOf, givenOf, truthOf};
 ghost use Rattle.meaning.specs.Model.{close, closing};
-ghost use Rattle.engine.specs.Work.{Ready, answersIn, levelsIn, rulesIn};
-ghost use Rattle.engine.specs.Rounds.{pendingIn};
-use crate::gather::pending;
+ghost use Rattle.steps.specs.Work.{Ready, answersIn, levelsIn, rulesIn};
+ghost use Rattle.steps.specs.Round.{pendingIn};
 use book::atoms::is_certain;
 use book::atoms::level_of;
 use book::fields::atom_given;
 use book::readers::count_of;
 use book::verdict::narrow;
 use judge::literal::answer;
+use steps::gather::pending;
 
 // Is some atom of the level undefined? A level without one costs no more than this look.
 pub fn busy(book: &[u8], answers: &[u8], level: usize) -> bool
     requires { ⌜ Ready (now book) × (length (now answers) ≡ countOf (now book) 1) ⌝ }
-    ensures { λ r. ⌜ (r ≡ false → NoneTo (pendingIn (now (book .entry)) level (now (answers .entry)))
-        (countOf (now (book .entry)) 1)) ⌝ }
+    ensures { λ r. ⌜ r ≡ anyTo (pendingIn (now (book .entry)) level (now (answers .entry)))
+        (countOf (now (book .entry)) 1) ⌝ }
 {
     let n = count_of(book, 1);
     let mut a = 0;
@@ -40,19 +39,15 @@ fn closed_answer(book: &[u8], level: usize, a: usize, x: u8) -> u8
     ensures { λ r. ⌜ r ≡ codeOf (closing (rulesIn (now (book .entry))) (levelsIn (now (book .entry))) level a
         (truthOf x)) ⌝ }
 {
-    if x == 1 {
-        return 1;
+    match x {
+        1 => 1,
+        2 => 2,
+        _ => if (level_of(book, a) == level) & is_certain(book, a) {
+            2
+        } else {
+            0
+        },
     }
-    if x == 2 {
-        return 2;
-    }
-    if level_of(book, a) != level {
-        return 0;
-    }
-    if is_certain(book, a) {
-        return 2;
-    }
-    0
 }
 
 // A certain level that is finished: all its other atoms become false.

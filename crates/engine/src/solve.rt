@@ -4,7 +4,7 @@ ghost use Prim.Native.Nat.{_<_};
 ghost use lib.ListN.{length, take};
 ghost use Rattle.meaning.specs.Format.{countOf};
 ghost use Rattle.meaning.specs.Outcome.{modelOf};
-ghost use Rattle.engine.specs.Work.{Ready, answersIn};
+ghost use Rattle.steps.specs.Work.{Ready, answersIn};
 ghost use Rattle.engine.specs.Turns.{Levelled};
 use crate::levels::busy;
 use crate::levels::close_level;
@@ -14,13 +14,7 @@ use crate::rounds::rounds;
 use book::readers::count_of;
 
 // One level, and its closing if it is certain.
-fn work_level(
-    book: &[u8],
-    level: usize,
-    before: [u8; 2048],
-    order: [u16; 2048],
-    used: usize,
-) -> Work
+fn work_level(book: &[u8], level: usize, before: [u8; 2048], order: &mut [u16], used: usize) -> Work
     requires { ⌜ Ready (now book) ⌝ }
     ensures { λ r. ⌜ Levelled (now (book .entry)) level (take (countOf (now (book .entry)) 1) before) (r .answers) ⌝ }
 {
@@ -28,20 +22,15 @@ fn work_level(
     if busy(book, &before[..n], level) {
         let rested = rounds(book, level, before, order, used);
         let answers = rested.answers;
-        let list = rested.order;
         let end = rested.used;
         let closed = close_level(book, &answers[..n], level);
         return Work {
             answers: closed,
-            changed: false,
-            order: list,
             used: end,
         };
     }
     Work {
         answers: before,
-        changed: false,
-        order,
         used,
     }
 }
@@ -53,13 +42,12 @@ pub fn solve(book: &[u8]) -> [u8; 2048]
         (now (book .entry))) ⌝ }
 {
     let mut answers = given_answers(book);
-    let mut list = [0u16; 2048];
+    let mut order = [0u16; 2048];
     let mut end = 0;
     let mut level = 0;
     while level < 128 {
-        let worked = work_level(book, level, answers, list, end);
+        let worked = work_level(book, level, answers, &mut order, end);
         answers = worked.answers;
-        list = worked.order;
         end = worked.used;
         level += 1;
     }

@@ -3,7 +3,7 @@ ghost use mathlib.Core.Path.{_≡_};
 ghost use Prim.Native.Nat.{_≤_};
 ghost use lib.ListN.{length};
 ghost use Rattle.meaning.specs.Outcome.{written};
-ghost use Rattle.engine.specs.Work.{answersIn};
+ghost use Rattle.steps.specs.Work.{answersIn};
 use judge::literal::answer;
 
 pub fn write_answers(answers: &[u8], room: &mut [u8])

@@ -22,7 +22,7 @@ use Rattle.meaning.proofs.Bytes.{body-length}
 use Rattle.book.specs.Framed.{Indexed}
 use Rattle.book.specs.Records.{comparisonRead, hypothesisIn, ruleIn}
 use Rattle.judge.specs.Held.{held, recordTruth, recordsTruth, ruleRecords, sortTruth}
-use Rattle.judge.proofs.Lasts.{slice-more, slice-none}
+use Rattle.laws.proofs.Lasts.{slice-more, slice-start}
 use Rattle.judge.proofs.CodeLaws.{code-back, rest-undefined}
 
 -- where a hypothesis points: among the atoms by sorts 0 and 1, else among the comparisons
@@ -121,7 +121,7 @@ module _ (b W K : List ℕ) (first : ℕ) where
 
   pub body-start : 1 ≡ codeOf (bodyTo 0)
   unfolding bodyTo recordsTruth
-  body-start = rw (slice-none first (tables b .hypotheses))
+  body-start = rw (slice-start first (tables b .hypotheses))
 
   count-is : length (tables b .hypotheses) ≡ countOf b 3
   unfolding tables

@@ -20,11 +20,12 @@ use Rattle.meaning.specs.Reading.{Element, Relation, aggregateOf, codeOf, compa
 use Rattle.meaning.specs.Truth.{comparisonTruth, decided, definite, elementTruth, extreme, holds, opposite, possible}
 use Rattle.book.specs.Records.{comparisonIn, comparisonRead, elementIn}
 use Rattle.judge.specs.Held.{held}
-use Rattle.judge.specs.Codes.{order, relationCode, turned}
+use Rattle.meaning.specs.Writing.{relationCode}
+use Rattle.judge.specs.Codes.{order, turned}
 use Rattle.judge.specs.Ranges.{elementRead, elementsRead}
 use Rattle.judge.specs.Gathered.{added, gathered, picked}
 use Rattle.judge.specs.declared.extremes.Extremes.{Extremes}
-use Rattle.judge.proofs.Lasts.{all-more, any-more}
+use Rattle.laws.proofs.Lasts.{all-more, any-more}
 use Rattle.judge.proofs.CodeLaws.{bits, code-back, false-test, true-test}
 use Rattle.judge.proofs.TableLaws.{relation-back, relation-rest}
 use Rattle.judge.proofs.RangeLaws.{elements-more, elements-none}

@@ -1,8 +1,4 @@
 -- Laws of the judgement, in reading order. Assumes nothing.
--- the size of a sum
-pub mod Sizes
--- the last entry of a list
-pub mod Lasts
 -- truths and their codes
 pub mod CodeLaws
 -- relations and their codes

@@ -10,7 +10,7 @@ use Rattle.meaning.specs.Reading.{Element, elementOf, range}
 use Rattle.meaning.specs.Truth.{total}
 use Rattle.meaning.proofs.Bytes.{body-length}
 use Rattle.judge.specs.Ranges.{elementRead, elementsRead}
-use Rattle.judge.proofs.Lasts.{map-more, slice-more, slice-none}
+use Rattle.laws.proofs.Lasts.{map-more, slice-more, slice-start}
 
 pub total-more : (share : Element → ℤ) (es : List Element) (e : Element) →
     total share (es ++ e ∷ []) ≡ total share es +ℤ share e
@@ -21,7 +21,7 @@ total-more share (x ∷ es) e =
 module _ (b : List ℕ) (first : ℕ) where
   pub elements-none : elementsRead b first 0 ≡ []
   unfolding elementsRead
-  elements-none = ap (map elementOf) (slice-none first (tables b .elements))
+  elements-none = ap (map elementOf) (slice-start first (tables b .elements))
 
   pub elements-more : (i : ℕ) → first + i < countOf b 5 →
       elementsRead b first (i + 1) ≡ elementsRead b first i ++ elementRead b (first + i) ∷ []

@@ -19,10 +19,11 @@ use Rattle.meaning.specs.Truth.{between, comparisonTruth, decided, elementTruth
 use Rattle.book.specs.Framed.{Framed}
 use Rattle.book.specs.Records.{comparisonIn, comparisonRead}
 use Rattle.judge.specs.Held.{held}
-use Rattle.judge.specs.Codes.{relationCode, weighing}
+use Rattle.meaning.specs.Writing.{relationCode}
+use Rattle.judge.specs.Codes.{weighing}
 use Rattle.judge.specs.Ranges.{elementRead, elementsRead}
 use Rattle.judge.specs.declared.sums.Ends.{Ends}
-use Rattle.judge.proofs.Sizes.{abs-add}
+use Rattle.laws.proofs.Sizes.{abs-add}
 use Rattle.judge.proofs.CodeLaws.{bits, code-back}
 use Rattle.judge.proofs.TableLaws.{relation-back, relation-rest}
 use Rattle.judge.proofs.RangeLaws.{elements-more, elements-none, total-more}

@@ -13,7 +13,8 @@ use Rattle.laws.specs.Lists.{seek}
 use Rattle.laws.proofs.Searches.{table-rule}
 use Rattle.meaning.specs.Reading.{Relation, aggregateOf, relationOf}
 use Rattle.meaning.specs.Truth.{mirror, opposite}
-use Rattle.judge.specs.Codes.{relationCode, turned}
+use Rattle.meaning.specs.Writing.{relationCode}
+use Rattle.judge.specs.Codes.{turned}
 
 -- a relation is read back from its code
 pub relation-back : (r : Relation) → relationOf (relationCode r) ≡ r

@@ -1,18 +1,9 @@
--- The code of a relation, and what each aggregate makes of weights, of their order and of a relation. Assumes nothing.
-use Prim.Native.Nat.{ℕ}
+-- What each aggregate makes of weights, of their order and of a relation. Assumes nothing.
 use mathlib.Core.Bool.{Bool}
 use lib.IntN.{ℤ}
 use lib.Signed.{ltZ}
 use Rattle.meaning.specs.Reading.{Aggregate, Element, Relation}
 use Rattle.meaning.specs.Truth.{above, mirror, one, ownWeight}
-
-abbrev pub relationCode : Relation → ℕ
-relationCode Relation.eq = 0
-relationCode Relation.ne = 1
-relationCode Relation.lt = 2
-relationCode Relation.le = 3
-relationCode Relation.gt = 4
-relationCode Relation.ge = 5
 
 -- count weighs each element 1
 abbrev pub weighing : Aggregate → Element → ℤ

@@ -2,7 +2,7 @@
 ghost use mathlib.Core.Path.{_≡_};
 ghost use Rattle.meaning.specs.Reading.{codeOf, relationOf};
 ghost use Rattle.meaning.specs.Truth.{decided, mirror, opposite};
-ghost use Rattle.judge.specs.Codes.{relationCode};
+ghost use Rattle.meaning.specs.Writing.{relationCode};
 
 const OPPOSITE: [usize; 6] = [1, 0, 5, 4, 3, 2];
 

@@ -11,11 +11,17 @@ pub mod Places
 pub mod Repeats
 -- parts of lists
 pub mod Ranges
+-- the last entry of a list
+pub mod Lasts
+-- tests over the numbers below a bound
+pub mod Numbers
 -- a number that stands twice
 pub mod Twice
 -- how many entries pass a test
 pub mod Counting
 -- orders and sums of integers
 pub mod Integers
+-- the size of a sum
+pub mod Sizes
 -- integers of 64 bits
 pub mod Signed

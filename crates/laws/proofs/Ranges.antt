@@ -8,7 +8,7 @@ use native.Mathlib.Decide.{decLt}
 use native.Mathlib.Omega.{arith}
 use lib.ListN.{length, getD, take}
 use lib.Seq.{getD-drop, getD-take, length-slice, slice}
-use Rattle.laws.specs.Lists.{In, any, gather}
+use Rattle.laws.specs.Lists.{In, all, any, gather}
 use Rattle.laws.proofs.Entries.{entry-any, getD-in, in-getD, none-any}
 
 module _ {X : Type 0} (d : X) (xs : List X) (first end : ℕ) where
@@ -44,7 +44,11 @@ pub any-map : {X Y : Type 0} (f : Y → Bool) (g : X → Y) (xs : List X) → an
 any-map f g [] = refl
 any-map f g (x ∷ xs) = ap (λ (b : Bool). f (g x) || b) (any-map f g xs)
 
-any-append : {X : Type 0} (f : X → Bool) (xs ys : List X) → any f (xs ++ ys) ≡ (any f xs || any f ys)
+pub all-map : {X Y : Type 0} (f : Y → Bool) (g : X → Y) (xs : List X) → all f (map g xs) ≡ all (λ x. f (g x)) xs
+all-map f g [] = refl
+all-map f g (x ∷ xs) = ap (λ (t : Bool). f (g x) && t) (all-map f g xs)
+
+pub any-append : {X : Type 0} (f : X → Bool) (xs ys : List X) → any f (xs ++ ys) ≡ (any f xs || any f ys)
 any-append f [] ys = refl
 any-append f (x ∷ xs) ys = ap (λ (b : Bool). f x || b) (any-append f xs ys) ∙ grouped (f x) (any f xs) (any f ys)
   where

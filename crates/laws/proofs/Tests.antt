@@ -56,6 +56,23 @@ either-fails false b e = (refl, e)
 pub and-fails : (a b : Bool) → So a → (a && b) ≡ false → b ≡ false
 and-fails a b p e = rw p at e
 
+-- `&&` and `||` with a constant on the right
+pub and-all : (a : Bool) → (a && true) ≡ a
+and-all true = refl
+and-all false = refl
+
+pub and-none : (a : Bool) → (a && false) ≡ false
+and-none true = refl
+and-none false = refl
+
+pub or-all : (a : Bool) → (a || true) ≡ true
+or-all true = refl
+or-all false = refl
+
+pub or-none : (a : Bool) → (a || false) ≡ a
+or-none true = refl
+or-none false = refl
+
 -- tests that pass as soon as others do
 pub and-map : (a b c d : Bool) → (So a → So c) → (So b → So d) → So (a && b) → So (c && d)
 and-map a b c d f g t = both (f (left a b t)) (g (right a b t))

@@ -52,6 +52,15 @@ abbrev pub seekFrom : (ℕ → Bool) → ℕ → ℕ → Option ℕ
 seekFrom f i zero = none
 seekFrom f i (suc n) = cond (f i) (some i) (seekFrom f (suc i) n)
 
+-- some number below n passes a test, and every one does
+unfoldable pub anyTo : (ℕ → Bool) → ℕ → Bool
+anyTo f zero = false
+anyTo f (suc n) = anyTo f n || f n
+
+unfoldable pub allTo : (ℕ → Bool) → ℕ → Bool
+allTo f zero = true
+allTo f (suc n) = allTo f n && f n
+
 -- some number stands twice
 abbrev pub twice : List ℕ → Bool
 twice [] = false

@@ -1,14 +1,16 @@
 -- `levels::busy` meets its contract: none of the atoms passed so far is to be decided. Assumes nothing.
 use Prim.Native.Nat.{_-_, _≤_}
+use mathlib.Core.Path.{_≡_}
+use mathlib.Core.Bool.{false}
 use borrow.Author.Needs.{needs}
-use Rattle.laws.proofs.Searches.{NoneTo}
-use Rattle.engine.specs.Rounds.{pendingIn}
-use Rattle.engine.proofs.LevelLaws.{looking}
+use Rattle.laws.specs.Lists.{anyTo}
+use Rattle.laws.proofs.Numbers.{looking}
+use Rattle.steps.specs.Round.{pendingIn}
 use Rattle.engine.proofs.levels.busy.Statement.{statement}
 use Rattle.engine.proofs.levels.busy.Tie as tie
 
 abbrev Inv-loop : tie.InvT-loop
-Inv-loop book answers level n a₀ a = (a ≤ n) × NoneTo (pendingIn book level answers) a
+Inv-loop book answers level n a₀ a = (a ≤ n) × (anyTo (pendingIn book level answers) a ≡ false)
 
 abbrev μ-loop : tie.MeasureT-loop
 μ-loop book answers level n a₀ a = n - a

@@ -1,7 +1,8 @@
 -- `levels::close_level` meets its contract: the atoms passed so far are closed. Assumes nothing.
 use Prim.Native.Nat.{_-_, _≤_}
 use borrow.Author.Needs.{needs}
-use Rattle.engine.proofs.LevelLaws.{Written, closedAt, writing}
+use Rattle.steps.proofs.WorkLaws.{Written}
+use Rattle.engine.proofs.LevelLaws.{closedAt, writing}
 use Rattle.engine.proofs.levels.close_level.Statement.{statement}
 use Rattle.engine.proofs.levels.close_level.Tie as tie
 

@@ -7,5 +7,5 @@ use Rattle.engine.proofs.levels.closed_answer.Tie as tie
 pub closed-answer-spec : {M : Type 1} → statement M
 closed-answer-spec =
     tie.close
-    (tie.spec (λ c. search (needs, closes)) (λ c. search (needs, closes)) (λ c κs. search needs)
-    (λ c. search (needs, closes)) (λ c κs. search needs) (λ c. search (needs, closes)) (λ c. search (needs, closes)))
+    (tie.spec (λ c κs. search (needs, closes)) (λ c κs. search (needs, closes)) (λ c. search (needs, closes))
+    (λ c. search (needs, closes)) (λ c. search (needs, closes)) (λ c. search (needs, closes)))

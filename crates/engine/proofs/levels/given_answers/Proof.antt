@@ -1,7 +1,8 @@
 -- `levels::given_answers` meets its contract: the atoms passed so far have their given answers. Assumes nothing.
 use Prim.Native.Nat.{_-_, _≤_}
 use borrow.Author.Needs.{needs}
-use Rattle.engine.proofs.LevelLaws.{Written, givenAt, writing}
+use Rattle.steps.proofs.WorkLaws.{Written}
+use Rattle.engine.proofs.LevelLaws.{givenAt, writing}
 use Rattle.engine.proofs.levels.given_answers.Statement.{statement}
 use Rattle.engine.proofs.levels.given_answers.Tie as tie
 

@@ -1,5 +1,6 @@
 -- `solve::work_level` meets its contract: a level is idle, or its rounds rest and it is closed. Assumes nothing.
 use borrow.Author.Needs.{needs}
+use Prim.Native.Nat.{_-_}
 use Rattle.engine.proofs.SolveLaws.{levelling}
 use Rattle.engine.proofs.solve.work_level.Statement.{statement}
 use Rattle.engine.proofs.solve.work_level.Tie as tie
@@ -10,4 +11,4 @@ work-level-spec =
     (tie.spec (λ c κs. search (needs, levelling)) (λ c. search (needs, levelling)) (λ c. search (needs, levelling))
     (λ c κs. search (needs, levelling)) (λ c κs. search (needs, levelling)) (λ c. search (needs, levelling))
     (λ c. search (needs, levelling)) (λ c κs. search (needs, levelling)) (λ c. search (needs, levelling))
-    (λ c. search (needs, levelling)))
+    (λ c. search (needs, levelling)) (λ c. search (needs, levelling)))

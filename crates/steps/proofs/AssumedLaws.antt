@@ -1,0 +1,344 @@
+-- Why striking out finds the greatest unfounded set: the candidates are assumed at the start, no strike takes an atom
+-- of an unfounded set out, and where no rule strikes, what is left is unfounded. Assumes nothing.
+use mathlib.Core.Path.{_≡_, refl, sym, ap, _∙_, subst, fun-ext}
+use mathlib.Core.Logic.{inl, inr, by-cases}
+use mathlib.Core.Bool.{Bool, true, false, not, cond, _&&_, So}
+use mathlib.Core.List.{List, [], _∷_}
+use Prim.Native.Nat.{ℕ, zero, suc, _+_, _<_, _≤_}
+use native.Mathlib.Decide.{decLt}
+use native.Mathlib.Omega.{arith}
+use lib.Dec.{eqb, ltb}
+use lib.ListN.{length, length-map, length-set, set, take}
+use borrow.Author.Tests.{eq-eqb, eqb-false, eqb-true, le-ltb, not-false}
+use Rattle.laws.specs.Lists.{In}
+use Rattle.laws.proofs.Entries.{getD-in, in-drop, in-getD, in-map, in-take, map-in}
+use Rattle.laws.proofs.Places.{getD-out}
+use Rattle.laws.proofs.Tests.{and-fails, both, by-test, left, not-of, of-not, right, test-clash}
+use Rattle.theory.specs.Truth.{Truth, isFalse, isTrue, isUndefined, _≼_}
+use Rattle.theory.specs.Answers.{Answers, Atoms, NoneTrue, _⊑_, wipe}
+use Rattle.theory.proofs.Truth.{by-answer, false-of, true-of, undefined-of, undefined-true, undefined-false}
+use Rattle.theory.proofs.Answers.{⊑-refl, wipe-in}
+use Rattle.meaning.specs.Format.{HypothesisRecord, countOf, hypothesisAt, noHypothesis, noRule, ruleAt, tables}
+use Rattle.meaning.specs.Reading.{Hypothesis, Kind, Rule, isClosed, reading, ruleOf, truthOf}
+use Rattle.meaning.specs.Truth.{bodyTruth, comparisonTruth, hypothesisTruth, meet}
+use Rattle.meaning.specs.Model.{membersOf, unfounded}
+use Rattle.meaning.specs.Founded.{Fails, Unfounded}
+use Rattle.meaning.proofs.Accepted.{kinds-length}
+use Rattle.meaning.proofs.Bodies.{body-false→, →body-false}
+use Rattle.meaning.proofs.Bytes.{atoms-length, body-length}
+use Rattle.meaning.proofs.Hypotheses.{hypothesis-local}
+use Rattle.meaning.proofs.KindLaws.{closed-of}
+use Rattle.meaning.proofs.Unfounded.{false→fails, greatest, is-unfounded, wider}
+use Rattle.book.specs.Framed.{Indexed}
+use Rattle.book.specs.Records.{comparisonRead, kindRead, levelRead, ruleIn, ruleRead}
+use Rattle.judge.specs.Held.{held, recordTruth, recordsTruth, ruleRecords, sortTruth}
+use Rattle.judge.proofs.BodyLaws.{known-body}
+use Rattle.steps.specs.Work.{Exact, Known, answersIn, levelsIn, rulesIn}
+use Rattle.steps.specs.Strike.{Assumed, Follows, candidateIn, onlyAssumed, strikesAt}
+use Rattle.steps.proofs.WorkLaws.{read-held, held-other, held-out, held-same}
+
+-- the greatest unfounded set, at the answers held in memory
+module _ (b : List ℕ) (n : ℕ) (L : List ℕ) (size : length L ≡ countOf b 1) where
+  abbrev found : Atoms
+  found = membersOf (unfounded (rulesIn b) (levelsIn b) n (answersIn L))
+
+  fits : length (answersIn L) ≡ length (rulesIn b .kinds)
+  fits = length-map L truthOf ∙ size ∙ sym (atoms-length b) ∙ sym (kinds-length (tables b))
+
+  found-unfounded : Unfounded (rulesIn b) (levelsIn b) n found (held L)
+  found-unfounded =
+      subst (Unfounded (rulesIn b) (levelsIn b) n found) (read-held L)
+      (is-unfounded (rulesIn b) (levelsIn b) n (answersIn L) fits)
+
+  found-greatest : (U : Atoms) → Unfounded (rulesIn b) (levelsIn b) n U (held L) → (a : ℕ) → So (U a) → So (found a)
+  found-greatest U u =
+      greatest (rulesIn b) (levelsIn b) n (answersIn L) fits U
+      (subst (Unfounded (rulesIn b) (levelsIn b) n U) (sym (read-held L)) u)
+
+-- what a candidate is
+module _ (b : List ℕ) (n : ℕ) (L : List ℕ) (a : ℕ) where
+  abbrev here : Bool
+  here = isClosed (kindRead b a) && eqb (levelRead b a) n
+
+  candidate-of : So (candidateIn b n L a) →
+      (kindRead b a ≡ Kind.closed) × (levelRead b a ≡ n) × (held L a ≡ Truth.true → ⊥)
+  unfolding candidateIn
+  candidate-of c = let k = left here _ c in (
+    closed-of (kindRead b a) (left (isClosed (kindRead b a)) _ k),
+    eqb-true (levelRead b a) n (right (isClosed (kindRead b a)) _ k),
+    λ t. not-of (isTrue (held L a)) (right here _ c) (ap isTrue t),
+  )
+
+  of-candidate : kindRead b a ≡ Kind.closed → levelRead b a ≡ n → (held L a ≡ Truth.true → ⊥) →
+      So (candidateIn b n L a)
+  unfolding candidateIn
+  of-candidate k l t =
+      both (both (ap isClosed k) (eq-eqb (levelRead b a) n l)) (of-not (isTrue (held L a)) (λ e. t (true-of _ e)))
+
+  -- past the table no atom is one
+  candidate-out : countOf b 1 ≤ a → candidateIn b n L a ≡ false
+  unfolding candidateIn
+  candidate-out l =
+      let past : length (rulesIn b .kinds) ≤ a = omega (arith, l, kinds-length (tables b), atoms-length b) in
+      let o : kindRead b a ≡ Kind.«open» = getD-out Kind.«open» (rulesIn b .kinds) a past in
+      rw o
+
+-- at the start all candidates are assumed
+pub assumed-start : (b : List ℕ) (n : ℕ) (L W : List ℕ) → length L ≡ countOf b 1 → length W ≡ length L →
+    ((a : ℕ) → a < countOf b 1 → held W a ≡ wipe (candidateIn b n L) (held L) a) → Assumed b n L W
+assumed-start b n L W size long at = record {
+  long = long;
+  chosen = candidateIn b n L;
+  counted = λ a.
+      by-cases (decLt a (countOf b 1)) (at a)
+      (λ out.
+      let o : countOf b 1 ≤ a = omega (arith, out) in
+      held-out W a (omega (arith, o, long, size)) ∙
+      sym (rw (candidate-out b n L a o) (held-out L a (omega (arith, o, size)))));
+  candidates = λ a c. c;
+  every = λ U u a m. let (k, l) = u .closed a m in of-candidate b n L a k l (u .none-true a m);
+}
+
+-- a body that is false at more knowledge of comparisons
+meet-falls : (x y z w : Truth) → (x ≡ Truth.false → z ≡ Truth.false) → (y ≡ Truth.false → w ≡ Truth.false) →
+    meet x y ≡ Truth.false → meet z w ≡ Truth.false
+meet-falls x y z w f g e =
+    by-test (isFalse x) (λ t. rw (f (false-of x t)))
+    (λ n. by-test (isFalse y) (λ t. rw (g (false-of y t)) (falls z)) (λ m. absurd (neither x y n m e)))
+  where
+    falls : (z : Truth) → meet z Truth.false ≡ Truth.false
+    falls Truth.undefined = refl
+    falls Truth.true = refl
+    falls Truth.false = refl
+
+    neither : (x y : Truth) → isFalse x ≡ false → isFalse y ≡ false → meet x y ≡ Truth.false → ⊥
+    neither Truth.undefined y n m e = undefined-false refl (rw m at e)
+    neither Truth.true y n m e = test-clash (ap isFalse e) m
+    neither Truth.false y n m e = test-clash refl n
+
+-- K has as false each comparison that is false at A
+module _ (b : List ℕ) (A K : Answers) (I : Indexed b)
+    (false-known : (c : ℕ) → c < countOf b 4 → comparisonTruth A (comparisonRead b c) ≡ Truth.false →
+    K c ≡ Truth.false) where
+  -- each comparison at A itself
+  abbrev fresh : Answers
+  fresh c = comparisonTruth A (comparisonRead b c)
+
+  sort-falls : (s i : ℕ) → i < cond (ltb s 2) (countOf b 1) (countOf b 4) → sortTruth A fresh s i ≡ Truth.false →
+      sortTruth A K s i ≡ Truth.false
+  sort-falls zero i l e = e
+  sort-falls (suc zero) i l e = e
+  sort-falls (suc (suc s)) i l e = false-known i (rw (le-ltb (suc (suc s)) 2 (omega arith)) at l) e
+
+  hypotheses-length : length (tables b .hypotheses) ≡ countOf b 3
+  unfolding tables
+  hypotheses-length = body-length hypothesisAt b 3
+
+  records-fall : (hs : List HypothesisRecord) → ((h : HypothesisRecord) → In h hs → In h (tables b .hypotheses)) →
+      recordsTruth A fresh hs ≡ Truth.false → recordsTruth A K hs ≡ Truth.false
+  unfolding recordsTruth
+  records-fall [] inside e = e
+  records-fall (h ∷ hs) inside e =
+      let (i, l, p) = in-getD noHypothesis (tables b .hypotheses) h (inside h (inl refl)) in
+      let at = rw p at (I .hypothesis i (omega (arith, l, hypotheses-length))) in
+      meet-falls (recordTruth A fresh h) (recordsTruth A fresh hs) (recordTruth A K h) (recordsTruth A K hs)
+      (sort-falls (h .sort) (h .index) at) (records-fall hs (λ x j. inside x (inr j))) e
+
+  -- so it has as false each body that is false at A
+  body-falls : (r : ℕ) → r < countOf b 2 → bodyTruth A (ruleRead b r .body) ≡ Truth.false →
+      recordsTruth A K (ruleRecords b r) ≡ Truth.false
+  body-falls r l e =
+      let past = ruleIn b r .first + ruleIn b r .many in
+      records-fall (ruleRecords b r)
+      (λ h j. in-take past (tables b .hypotheses) h
+      (in-drop (ruleIn b r .first) (take past (tables b .hypotheses)) h j))
+      (known-body b A fresh I (λ c _. refl) r l ∙ e)
+
+-- rule r of a book, among the rules as read
+rules-length : (b : List ℕ) → length (tables b .rules) ≡ countOf b 2
+unfolding tables
+rules-length b = body-length ruleAt b 2
+
+rule-in : (b : List ℕ) (r : ℕ) → r < countOf b 2 → In (ruleRead b r) (rulesIn b .rules)
+unfolding reading
+rule-in b r l =
+    in-map (ruleOf (tables b)) (tables b .rules) (ruleIn b r)
+    (getD-in noRule (tables b .rules) r (omega (arith, l, rules-length b)))
+
+head-is : (b : List ℕ) (r : ℕ) → ruleRead b r .head ≡ ruleIn b r .head
+unfolding ruleOf
+head-is b r = refl
+
+module _ (b : List ℕ) (n : ℕ) (L W : List ℕ) (w : Assumed b n L W) where
+  is-wiped : held W ≡ wipe (w .chosen) (held L)
+  is-wiped = fun-ext (w .counted)
+
+  none-true : NoneTrue (w .chosen) (held L)
+  none-true a m = candidate-of b n L a (w .candidates a m) .2
+
+  -- a rule whose head is in an unfounded set has a false body
+  unfounded-false : (U : Atoms) → Unfounded (rulesIn b) (levelsIn b) n U (held L) → (r : ℕ) → r < countOf b 2 →
+      So (U (ruleIn b r .head)) → bodyTruth (held W) (ruleRead b r .body) ≡ Truth.false
+  unfounded-false U u r l m =
+      let (h, i, f) = u .fails (ruleRead b r) (rule-in b r l) (rw (head-is b r) m) in
+      →body-false (held W) (ruleRead b r .body) h i
+      (rw is-wiped (wider U (w .chosen) (held L) (w .every U u) none-true h f))
+
+-- what a strike says
+module _ (b L W K : List ℕ) (r : ℕ) where
+  abbrev only-assumed : Bool
+  only-assumed = onlyAssumed L W (ruleIn b r .head)
+
+  pub strike-of : strikesAt b L W K r ≡ true → (held W (ruleIn b r .head) ≡ Truth.false)
+      × (held L (ruleIn b r .head) ≡ Truth.undefined)
+      × (recordsTruth (held W) (held K) (ruleRecords b r) ≡ Truth.false → ⊥)
+  unfolding strikesAt
+  strike-of s =
+      let o = left only-assumed _ s in (
+        false-of _ (left (isFalse (held W (ruleIn b r .head))) _ o),
+        undefined-of _ (right (isFalse (held W (ruleIn b r .head))) _ o),
+        λ f. not-of _ (right only-assumed _ s) (ap isFalse f),
+      )
+
+  -- where a rule does not strike a head that is only assumed false, its body is false
+  no-strike : strikesAt b L W K r ≡ false → held W (ruleIn b r .head) ≡ Truth.false →
+      held L (ruleIn b r .head) ≡ Truth.undefined → recordsTruth (held W) (held K) (ruleRecords b r) ≡ Truth.false
+  unfolding strikesAt
+  no-strike s f u =
+      let o : So only-assumed = both (ap isFalse f) (ap isUndefined u) in
+      false-of _ (not-false _ (and-fails only-assumed _ o s))
+
+  -- a strike leaves what is assumed so
+  module _ (n : ℕ) (I : Indexed b) (w : Assumed b n L W) (l : r < countOf b 2) (m : ruleIn b r .head < length W)
+      (s : strikesAt b L W K r ≡ true)
+      (false-known : (c : ℕ) → c < countOf b 4 → comparisonTruth (held W) (comparisonRead b c) ≡ Truth.false →
+      held K c ≡ Truth.false) where
+    not-unfounded : (U : Atoms) → Unfounded (rulesIn b) (levelsIn b) n U (held L) → So (U (ruleIn b r .head)) → ⊥
+    not-unfounded U u i =
+        strike-of s .2 (body-falls b (held W) (held K) I false-known r l (unfounded-false b n L W w U u r l i))
+
+    struck : Assumed b n L (set W (ruleIn b r .head) 0)
+    struck = let h = ruleIn b r .head in record {
+      long = length-set W h 0 ∙ w .long;
+      chosen = λ a. not (eqb a h) && w .chosen a;
+      counted = λ a.
+          by-test (eqb a h)
+          (λ t. rw (t, eqb-true a h t) (held-same W h 0 Truth.undefined m refl ∙ sym (strike-of s .1)))
+          (λ f. rw f (held-other W h 0 a (eqb-false a h f) ∙ w .counted a));
+      candidates = λ a c. w .candidates a (right (not (eqb a h)) _ c);
+      every = λ U u a i.
+          by-test (eqb a h) (λ t. absurd (not-unfounded U u (rw (← eqb-true a h t) i)))
+          (λ f. both (ap not f) (w .every U u a i));
+    }
+
+-- where each rule whose head is only assumed false has a false body, what is assumed is exact
+module _ (b : List ℕ) (n : ℕ) (L W : List ℕ) (size : length L ≡ countOf b 1) (w : Assumed b n L W)
+    (refuted : (r : ℕ) → r < countOf b 2 → held W (ruleIn b r .head) ≡ Truth.false →
+    held L (ruleIn b r .head) ≡ Truth.undefined → bodyTruth (held W) (ruleRead b r .body) ≡ Truth.false) where
+  -- those that are undefined without it
+  abbrev only : Atoms
+  only a = w .chosen a && isUndefined (held L a)
+
+  only-wiped : held W ≡ wipe only (held L)
+  only-wiped = fun-ext (λ a. w .counted a ∙ go (w .chosen a) (held L a) (none-true b n L W w a))
+    where
+      go : (c : Bool) (x : Truth) → (So c → x ≡ Truth.true → ⊥) →
+          cond c Truth.false x ≡ cond (c && isUndefined x) Truth.false x
+      go true Truth.undefined f = refl
+      go true Truth.true f = absurd (f refl refl)
+      go true Truth.false f = refl
+      go false x f = refl
+
+  only-none : NoneTrue only (held L)
+  only-none a m = none-true b n L W w a (left (w .chosen a) _ m)
+
+  -- each rule with such a head has a false body
+  only-false : (r : ℕ) → r < countOf b 2 → So (only (ruleIn b r .head)) →
+      bodyTruth (held W) (ruleRead b r .body) ≡ Truth.false
+  only-false r l m =
+      let h = ruleIn b r .head in
+      let f : held W h ≡ Truth.false = rw only-wiped (wipe-in only (held L) h m) in
+      refuted r l f (undefined-of _ (right (w .chosen h) _ m))
+
+  false-fails : (h : Hypothesis) → hypothesisTruth (held W) h ≡ Truth.false → Fails only (held L) h
+  false-fails h f =
+      false→fails only (held L) only-none h (subst (λ (A : Answers). hypothesisTruth A h ≡ Truth.false) only-wiped f)
+
+  -- so a hypothesis of it fails
+  only-fails : (r : Rule) → In r (rulesIn b .rules) → So (only (r .head)) →
+      (h : Hypothesis) × In h (r .body) × Fails only (held L) h
+  unfolding reading
+  only-fails r i m =
+      let (x, j, e) = map-in (ruleOf (tables b)) (tables b .rules) r i in
+      let (p, l, q) = in-getD noRule (tables b .rules) x j in
+      let same : ruleRead b p ≡ r = ap (ruleOf (tables b)) q ∙ e in
+      let t : So (only (ruleIn b p .head)) = rw (← head-is b p, same) m in
+      let f : bodyTruth (held W) (r .body) ≡ Truth.false =
+      rw (← same) (only-false p (omega (arith, l, rules-length b)) t) in
+      let (h, o, v) = body-false→ (held W) (r .body) f in
+      (h, o, false-fails h v)
+
+  only-unfounded : Unfounded (rulesIn b) (levelsIn b) n only (held L)
+  only-unfounded = record {
+    closed = λ a m. let (c, l, _) = candidate-of b n L a (w .candidates a (left (w .chosen a) _ m)) in (c, l);
+    none-true = only-none;
+    fails = only-fails;
+  }
+
+  refuted-exact : Exact b n L W
+  refuted-exact = record {
+    long = w .long;
+    counted = λ a.
+        ap (λ (A : Answers). A a) only-wiped ∙
+        by-test (only a) (λ m. rw (m, found-greatest b n L size only only-unfounded a m))
+        (λ f. by-test (found b n L size a) (λ m. rw (f, m) (already a f m)) (λ g. rw (f, g)));
+  }
+    where
+      -- an unfounded atom that is not undefined without it is false already
+      already : (a : ℕ) → only a ≡ false → So (found b n L size a) → held L a ≡ Truth.false
+      already a f m =
+          let c = w .every (found b n L size) (found-unfounded b n L size) a m in
+          by-answer (held L a) (λ u. test-clash (both c (ap isUndefined u)) f)
+          (λ t. absurd (none-true b n L W w a c t)) (λ v. v)
+
+-- so it is where no rule strikes
+pub quiet-exact : (b : List ℕ) (n : ℕ) (L W K : List ℕ) → Indexed b → length L ≡ countOf b 1 → Assumed b n L W →
+    Known b W K → ((r : ℕ) → r < countOf b 2 → strikesAt b L W K r ≡ false) → Exact b n L W
+quiet-exact b n L W K I size w k quiet =
+    refuted-exact b n L W size w
+    (λ r l f u. sym (known-body b (held W) (held K) I (k .truths) r l) ∙ no-strike b L W K r (quiet r l) f u)
+
+-- and where no atom is only assumed false
+pub settled-exact : (b : List ℕ) (n : ℕ) (L W : List ℕ) → Indexed b → length L ≡ countOf b 1 → Assumed b n L W →
+    ((a : ℕ) → a < countOf b 1 → onlyAssumed L W a ≡ false) → Exact b n L W
+settled-exact b n L W I size w none =
+    refuted-exact b n L W size w
+    (λ r l f u. test-clash (both (ap isFalse f) (ap isUndefined u)) (none (ruleIn b r .head) (I .head r l)))
+
+-- strikes from B on, by truths of comparisons found at B
+module _ (b L B K : List ℕ) where
+  pub follows-none : Follows b L B B
+  follows-none = record { less = ⊑-refl (held B); keeps = λ n w. w }
+
+  -- a comparison that is false at less knowledge was false before
+  less-known : (W : List ℕ) → Known b B K → held W ⊑ held B → (c : ℕ) → c < countOf b 4 →
+      comparisonTruth (held W) (comparisonRead b c) ≡ Truth.false → held K c ≡ Truth.false
+  unfolding hypothesisTruth
+  less-known W k less c l e =
+      k .truths c l ∙
+      hypothesis-local (held W) (held B) (Hypothesis.comparison (comparisonRead b c)) (λ a _. less a) .1 e
+
+  pub follows-struck : (W : List ℕ) (r : ℕ) → Indexed b → Known b B K → length W ≡ countOf b 1 → r < countOf b 2 →
+      strikesAt b L W K r ≡ true → Follows b L B W → Follows b L B (set W (ruleIn b r .head) 0)
+  follows-struck W r I k size l s f =
+      let h = ruleIn b r .head in
+      let m : h < length W = omega (arith, I .head r l, size) in
+      record {
+        less = λ a.
+            by-test (eqb a h)
+            (λ t. let u : held (set W h 0) a ≡ Truth.undefined =
+            rw (eqb-true a h t) (held-same W h 0 Truth.undefined m refl) in
+            (λ e. absurd (undefined-true u e), λ e. absurd (undefined-false u e)))
+            (λ n. subst (λ (x : Truth). x ≼ held B a) (sym (held-other W h 0 a (eqb-false a h n))) (f .less a));
+        keeps = λ n w. struck b L W K r n I (f .keeps n w) l m s (less-known W k (f .less));
+      }

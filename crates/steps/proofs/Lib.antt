@@ -1,0 +1,19 @@
+-- Laws of this crate, in reading order.
+-- answers held in memory: read, written, the first of them alone
+pub mod WorkLaws
+-- the truths of all comparisons
+pub mod KnownLaws
+-- the loop that gathers
+pub mod GatherLaws
+-- what a round gathers is what steps (a) and (b) ask
+pub mod HeadLaws
+-- why striking out finds the greatest unfounded set
+pub mod AssumedLaws
+-- one rule's strike
+pub mod StrikeLaws
+-- passes over the rules
+pub mod PassLaws
+-- the loop that writes
+pub mod SettleLaws
+-- a round of the code is a round of the model
+pub mod RoundLaws

@@ -1,0 +1,161 @@
+-- Passes over the rules: what a strike leaves, when a pass was quiet, and turns until the end. Assumes nothing.
+use mathlib.Core.Path.{_≡_, refl, sym, ap, _∙_}
+use mathlib.Core.Bool.{Bool, true, false}
+use mathlib.Core.List.{List, [], _∷_}
+use Prim.Native.Nat.{ℕ, zero, suc, _+_, _^_, _<_, _≤_}
+use native.Mathlib.Omega.{arith}
+use lib.ListN.{length, getD, length-set, set}
+use Rattle.laws.specs.Lists.{anyTo}
+use Rattle.laws.proofs.Numbers.{any-none}
+use Rattle.laws.proofs.Searches.{NoneTo, none-more, none-start}
+use Rattle.theory.specs.Truth.{isFalse}
+use Rattle.theory.proofs.Answers.{⊑-trans}
+use Rattle.meaning.specs.Format.{countOf}
+use Rattle.meaning.specs.Reading.{truthOf}
+use Rattle.book.specs.Records.{ruleIn}
+use Rattle.judge.specs.Held.{held}
+use Rattle.steps.specs.Work.{Exact, Known, Ready}
+use Rattle.steps.specs.Strike.{Assumed, Ends, Follows, falses, onlyAssumed, strikesAt}
+use Rattle.steps.proofs.AssumedLaws.{follows-none, follows-struck, quiet-exact, settled-exact, strike-of}
+
+-- a false answer that is made undefined
+one-fewer : (W : List ℕ) (i : ℕ) → i < length W → isFalse (truthOf (getD W i 0)) ≡ true →
+    falses (set W i 0) + 1 ≡ falses W
+unfolding falses
+one-fewer [] i l e = absurd (omega (arith, l))
+one-fewer (x ∷ W) zero l e = rw e (omega arith)
+one-fewer (x ∷ W) (suc i) l e = omega (arith, one-fewer W i (omega (arith, l)) e)
+
+-- a strike at rule r's head
+module _ (b L K W : List ℕ) (m r h : ℕ) (s : Bool) (R : Ready b) (em : m ≡ countOf b 2)
+    (size : length W ≡ countOf b 1) (l : r < m) (e : h ≡ ruleIn b r .head) (p : s ≡ strikesAt b L W K r)
+    (t : s ≡ true) where
+  pub head-room : h < length W
+  head-room = omega (arith, R .indexed .head r (omega (arith, em, l)), e, size)
+
+  pub strike-follows : (B : List ℕ) → Known b B K → Follows b L B W → Follows b L B (set W h 0)
+  strike-follows B k f =
+      rw e (follows-struck b L B K W r (R .indexed) k size (omega (arith, em, l)) (sym p ∙ t) f)
+
+  strike-fewer : falses (set W h 0) + 1 ≡ falses W
+  unfolding held
+  strike-fewer = one-fewer W h head-room (rw e (ap isFalse (strike-of b L W K r (sym p ∙ t) .0)))
+
+  pub strike-lower : (u : ℕ) → falses W ≤ u → falses (set W h 0) ≤ u
+  strike-lower u g = omega (arith, strike-fewer, g)
+
+-- A pass from B over the first k rules: each strike is counted, and if there was none, nothing has changed since B
+-- and none of them strikes there.
+pub record Passed (b L K B W : List ℕ) (struck k : ℕ) : Type 0 where
+  pub long : length W ≡ countOf b 1
+  pub follows : Follows b L B W
+  pub fewer : falses W + struck ≡ falses B
+  pub same : struck ≡ 0 → W ≡ B
+  pub none : struck ≡ 0 → NoneTo (strikesAt b L B K) k
+
+module _ (b L K B : List ℕ) where
+  pub passed-start : length B ≡ countOf b 1 → Passed b L K B B 0 0
+  passed-start e = record {
+    long = e;
+    follows = follows-none b L B B;
+    fewer = omega arith;
+    same = λ _. refl;
+    none = λ _. none-start _;
+  }
+
+  module _ (W : List ℕ) (d k : ℕ) (s : Bool) (q : Passed b L K B W d k) (p : s ≡ strikesAt b L W K k) where
+    pub passed-room : (h m : ℕ) → s ≡ true → Ready b → m ≡ countOf b 2 → k < m → h ≡ ruleIn b k .head → h < length W
+    passed-room h m t R em l e = head-room b L K W m k h s R em (q .long) l e p t
+
+    pub passed-struck : (h m : ℕ) → s ≡ true → Ready b → m ≡ countOf b 2 → k < m → h ≡ ruleIn b k .head →
+        Known b B K → Passed b L K B (set W h 0) (d + 1) (k + 1)
+    passed-struck h m t R em l e known = record {
+      long = length-set W h 0 ∙ q .long;
+      follows = strike-follows b L K W m k h s R em (q .long) l e p t B known (q .follows);
+      fewer = omega (arith, strike-fewer b L K W m k h s R em (q .long) l e p t, q .fewer);
+      same = λ z. absurd (omega (arith, z));
+      none = λ z. absurd (omega (arith, z));
+    }
+
+    pub passed-more : s ≡ false → Passed b L K B W d (k + 1)
+    passed-more f = record {
+      long = q .long;
+      follows = q .follows;
+      fewer = q .fewer;
+      same = q .same;
+      none = λ z. none-more _ k (q .none z) (rw (← q .same z) (sym p ∙ f));
+    }
+
+  pub passed-ends : (W : List ℕ) (d k m : ℕ) → Passed b L K B W d k → Ready b → length L ≡ countOf b 1 →
+      m ≡ countOf b 2 → m ≤ k → Known b B K → Ends b L B W d
+  unfolding NoneTo
+  passed-ends W d k m q R size em l known = record {
+    exact = λ z level w.
+        rw (q .same z)
+        (quiet-exact b level L B K (R .indexed) size w known (λ r o. q .none z r (omega (arith, o, em, l))));
+  }
+
+  pub passed-long : (W : List ℕ) (d k : ℕ) → Passed b L K B W d k → length W ≡ countOf b 1
+  passed-long W d k q = q .long
+
+pub still-long : (W : List ℕ) (h v n : ℕ) → length W ≡ n → length (set W h v) ≡ n
+still-long W h v n e = length-set W h v ∙ e
+
+pub rule-short : (b : List ℕ) (n r : ℕ) → Ready b → n ≡ countOf b 2 → r < n → r < 2 ^ 16
+rule-short b n r R e l = omega (arith, R .framed .counts 2 (omega arith), e, l)
+
+pub known-long : (b B K : List ℕ) → Known b B K → countOf b 4 ≤ length K
+known-long b B K k = k .long
+
+-- two lists of one length
+pub as-long : (L W : List ℕ) (n : ℕ) → length W ≡ n → length L ≡ n → length W ≡ length L
+as-long L W n e f = e ∙ sym f
+
+pub ruleset trying = (follows-none, as-long, head-room, still-long, known-long, strike-follows, strike-lower)
+
+pub ruleset passing = (
+  as-long,
+  known-long,
+  rule-short,
+  passed-start,
+  passed-room,
+  passed-struck,
+  passed-more,
+  passed-ends,
+  passed-long,
+)
+
+-- where nothing is waiting, nothing is left to strike
+module _ (b L W : List ℕ) (s : Bool) (R : Ready b) (size : length L ≡ countOf b 1)
+    (p : s ≡ anyTo (onlyAssumed L W) (length L)) (f : s ≡ false) where
+  pub settled : (level : ℕ) → Assumed b level L W → Exact b level L W
+  unfolding NoneTo
+  settled level w =
+      settled-exact b level L W (R .indexed) size w
+      (λ a l. any-none (onlyAssumed L W) (length L) (sym p ∙ f) a (omega (arith, l, size)))
+
+  pub settled-ends : (B : List ℕ) → Follows b L B W → Ends b L B W 0
+  settled-ends B t = record { exact = λ _ level w. settled level (t .keeps level w) }
+
+-- a pass after a try
+module _ (b L B T W : List ℕ) (t : Follows b L B T) where
+  pub follows-follows : Follows b L T W → Follows b L B W
+  follows-follows f = record {
+    less = ⊑-trans {A = held W} {B = held T} {C = held B} (f .less) (t .less);
+    keeps = λ level w. f .keeps level (t .keeps level w);
+  }
+
+  pub follows-ends : (struck : ℕ) → Ends b L T W struck → Ends b L B W struck
+  follows-ends struck e = record { exact = λ z level w. e .exact z level (t .keeps level w) }
+
+pub ruleset turning = (as-long, follows-follows, follows-ends, settled-ends)
+
+-- turns until the end
+module _ (b L B W : List ℕ) (level : ℕ) (w : Assumed b level L B) where
+  pub turn-assumed : Follows b L B W → Assumed b level L W
+  turn-assumed f = f .keeps level w
+
+  pub turn-exact : (struck : ℕ) → Ends b L B W struck → struck ≡ 0 → Exact b level L W
+  turn-exact struck e z = e .exact z level w
+
+pub ruleset turns = (as-long, turn-assumed, turn-exact, settled)

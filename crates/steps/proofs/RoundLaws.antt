@@ -1,0 +1,113 @@
+-- A round of the code is a round of the model. Assumes nothing.
+use mathlib.Core.Path.{_≡_, sym, ap, _∙_}
+use mathlib.Core.Bool.{Bool, true, false}
+use mathlib.Core.List.{List, _++_}
+use Prim.Native.Nat.{ℕ, _+_, _<_, _≤_}
+use native.Mathlib.Omega.{arith}
+use lib.ListN.{length, getD, length-append, length-map, take}
+use lib.Seq.{getD-take, length-take-le, take-append-seam}
+use Rattle.laws.specs.Lists.{mapAt}
+use Rattle.laws.proofs.Entries.{map-at}
+use Rattle.laws.proofs.Places.{mapAt-at, mapAt-length}
+use Rattle.theory.specs.Truth.{Truth, isFalse, isTrue}
+use Rattle.meaning.specs.Format.{countOf}
+use Rattle.meaning.specs.Reading.{truthOf}
+use Rattle.meaning.specs.Model.{next, round, unfounded}
+use Rattle.judge.specs.Held.{held}
+use Rattle.steps.specs.Work.{Exact, Known, Ready, answersIn, levelsIn, rulesIn}
+use Rattle.steps.specs.Round.{Gathered, Judged, Settled, Turn}
+use Rattle.steps.proofs.WorkLaws.{few, written-all}
+use Rattle.steps.proofs.HeadLaws.{head-derived, head-refuted}
+
+-- what has been gathered from all rules is what steps (a) and (b) ask
+pub gathered-judged : (b : List ℕ) (n : ℕ) (L K best : List ℕ) → Ready b → Known b L K →
+    Gathered b n L K best (countOf b 2) →
+    Judged b n L best
+gathered-judged b n L K best F N G = record {
+  long = G .long;
+  rises = λ a l p. ap isTrue (G .truths a l p) ∙ head-derived b L K a F N;
+  sinks = λ a l p. ap isFalse (G .truths a l p) ∙ head-refuted b L K a F N;
+}
+
+-- what has been written at all atoms is the model's round
+module _ (b : List ℕ) (n : ℕ) (L now : List ℕ) (c : Bool) (F : Ready b) (s : length L ≡ countOf b 1)
+    (S : Settled b n L now c (countOf b 1)) where
+  abbrev step : ℕ → Truth → Truth
+  step = next (rulesIn b) (levelsIn b) n (answersIn L) (unfounded (rulesIn b) (levelsIn b) n (answersIn L))
+
+  many : length (answersIn L) ≡ countOf b 1
+  many = length-map L truthOf ∙ s
+
+  at : (a : ℕ) → a < countOf b 1 → getD (answersIn L) a Truth.undefined ≡ held L a
+  unfolding held
+  at a l = map-at truthOf 0 Truth.undefined L a (omega (arith, l, s))
+
+  written-round : answersIn (take (countOf b 1) now) ≡ round (rulesIn b) (levelsIn b) n (answersIn L)
+  unfolding round
+  written-round =
+      written-all (λ a. step a (held L a)) now (countOf b 1) (mapAt step 0 (answersIn L)) (few b F)
+      (mapAt-length step 0 (answersIn L) ∙ many)
+      (λ a l. sym (mapAt-at step Truth.undefined Truth.undefined (answersIn L) a (omega (arith, l, many)) ∙
+      ap (step a) (at a l)))
+      (record { long = S .long; answers = S .answers })
+
+  same-round : c ≡ false → answersIn (take (countOf b 1) now) ≡ answersIn L
+  same-round e =
+      written-all (held L) now (countOf b 1) (answersIn L) (few b F) many (λ a l. sym (at a l))
+      (record { long = S .long; answers = S .same e })
+
+  other-round : c ≡ true → answersIn (take (countOf b 1) now) ≡ answersIn L → ⊥
+  other-round e q =
+      let (a, l, f) = S .differs e in
+      let z : length (take (countOf b 1) now) ≡ countOf b 1 =
+      length-take-le (countOf b 1) now (omega (arith, few b F, S .long)) in
+      f (ap truthOf (sym (getD-take (countOf b 1) now a 0 l)) ∙
+      sym (map-at truthOf 0 Truth.undefined (take (countOf b 1) now) a (omega (arith, l, z))) ∙
+      ap (λ (A : List Truth). getD A a Truth.undefined) q ∙ at a l)
+
+  pub turned : Turn b n L now c
+  turned = record {
+    long = S .long;
+    is = written-round;
+    rests = λ e. sym written-round ∙ same-round e;
+    moves = λ e q. other-round e (written-round ∙ q);
+  }
+
+-- the array of 2048, lent as far as there are atoms, and as it comes back
+module _ (b L : List ℕ) (F : Ready b) (s : length L ≡ countOf b 1) where
+  pub lent-room : length L ≤ 2048
+  lent-room = omega (arith, few b F, s)
+
+  pub lent-within : (W : List ℕ) → length W ≡ 2048 → length L ≤ length W
+  lent-within W l = omega (arith, few b F, s, l)
+
+  pub lent-count : (W : List ℕ) → length W ≡ 2048 → length L ≡ length (take (length L) W)
+  lent-count W l = sym (length-take-le (length L) W (lent-within W l))
+
+  pub lent-long : (W : List ℕ) → length W ≡ 2048 → length (take (length L) W) ≡ countOf b 1
+  lent-long W l = sym (lent-count W l) ∙ s
+
+module _ (b : List ℕ) (n : ℕ) (L W Z : List ℕ) (E : Exact b n L W) where
+  front : take (length L) (W ++ Z) ≡ W
+  front = rw (← E .long) (take-append-seam W Z)
+
+  pub back-exact : Exact b n L (take (length L) (W ++ Z))
+  back-exact = rw front E
+
+  pub back-within : length L ≤ length (W ++ Z)
+  back-within = omega (arith, E .long, length-append W Z)
+
+  pub back-count : length L ≡ length (take (length L) (W ++ Z))
+  back-count = rw front (sym (E .long))
+
+pub ruleset turn-round = (
+  gathered-judged,
+  lent-room,
+  lent-within,
+  lent-count,
+  lent-long,
+  back-exact,
+  back-within,
+  back-count,
+  turned,
+)

@@ -1,0 +1,38 @@
+-- `settle::settle` meets its contract: the atoms passed so far have their next answers. Assumes nothing.
+use mathlib.Core.Path.{refl}
+use Prim.Native.Nat.{_-_, _≤_}
+use native.Mathlib.Omega.{arith}
+use borrow.Author.Needs.{needs}
+use Rattle.steps.specs.Round.{Settled}
+use Rattle.steps.proofs.SettleLaws.{settled-more, settling}
+use Rattle.steps.proofs.settle.settle.Statement.{statement}
+use Rattle.steps.proofs.settle.settle.Tie as tie
+
+abbrev Inv-loop : tie.InvT-loop
+Inv-loop book answers level best assumed n now₀ changed₀ a₀ now changed a =
+    (a ≤ n) × Settled book level answers now changed a
+
+abbrev μ-loop : tie.MeasureT-loop
+μ-loop book answers level best assumed n now₀ changed₀ a₀ now changed a = n - a
+
+-- one atom more
+again : tie.Need-loop-again Inv-loop μ-loop
+again c =
+    let read = c .before in
+    let first = read .before .before in
+    let turn = first .before .before in
+    let counted = turn .before in
+    let known = counted .before .before .before in
+    let given = known .before .before .pre in (
+      search needs,
+      settled-more _ _ _ _ _ (given .2) (given .3) (given .0) _ _ _ _ _ _ _ (turn .loop .inv .1) (omega arith)
+          (first .answer .ensures) refl (read .answer2 .ensures) (c .next-answer .ensures) _ refl,
+    )
+
+pub settle-spec : {M : Type 1} → statement M
+settle-spec =
+    tie.close
+    (tie.spec Inv-loop μ-loop (λ c κs. search needs) (λ c. search (needs, settling))
+    (λ c κs. search (needs, settling)) (λ c. search (needs, settling)) (λ c κs. search (needs, settling))
+    (λ c κs. search needs) (λ c. search (needs, settling)) (λ c. search needs) (λ c. search needs)
+    again (λ c. search (needs, settling)))

@@ -1,0 +1,14 @@
+-- `strike::turn` meets its contract. Assumes nothing.
+use borrow.Author.Needs.{needs}
+use Prim.Native.Nat.{_-_}
+use Rattle.steps.proofs.PassLaws.{turning}
+use Rattle.steps.proofs.strike.turn.Statement.{statement}
+use Rattle.steps.proofs.strike.turn.Tie as tie
+
+pub turn-spec : {M : Type 1} → statement M
+turn-spec =
+    tie.close
+    (tie.spec (λ c κs. search (needs, turning)) (λ c κs. search (needs, turning)) (λ c κs. search (needs, turning))
+    (λ c. search (needs, turning)) (λ c. search (needs, turning))
+    (λ c. (search (needs, turning), (search needs, search (needs, turning)))) (λ c. search (needs, turning))
+    (λ c. search (needs, turning)) (λ c. (search (needs, turning), (search needs, search (needs, turning)))))

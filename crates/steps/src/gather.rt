@@ -1,0 +1,54 @@
+// Steps (a) and (b): for each atom that a level has still to decide, the truth of the rules that conclude it.
+ghost use mathlib.Core.Path.{_≡_};
+ghost use Prim.Native.Nat.{_<_, _≤_};
+ghost use lib.ListN.{length};
+ghost use Rattle.meaning.specs.Format.{countOf};
+ghost use Rattle.meaning.specs.Reading.{codeOf, truthOf};
+ghost use Rattle.steps.specs.Work.{Ready};
+ghost use Rattle.steps.specs.Round.{Gathered, join, pendingIn};
+use book::atoms::level_of;
+use book::fields::rule_head;
+use book::readers::count_of;
+use judge::body::body;
+use judge::literal::answer;
+
+// Is the atom undefined, and of the level?
+pub fn pending(book: &[u8], answers: &[u8], level: usize, a: usize) -> bool
+    requires { ⌜ Ready (now book) × (length (now answers) ≡ countOf (now book) 1) × (a < countOf (now book) 1) ⌝ }
+    ensures { λ r. ⌜ r ≡ pendingIn (now (book .entry)) level (now (answers .entry)) a ⌝ }
+{
+    (answer(answers, a) == 0) & (level_of(book, a) == level)
+}
+
+// One more body: true if one is true, false if both are false.
+fn joined(best: u8, body: u8) -> u8
+    ensures { λ r. ⌜ truthOf r ≡ join (truthOf best) (truthOf body) ⌝ }
+{
+    match best {
+        1 => 1,
+        2 => body,
+        _ => if body == 1 { 1 } else { 0 },
+    }
+}
+
+// All rules once: 2 where every body is false, 1 where one is true, else 0. Atoms that are not to be decided are
+// passed over.
+pub fn gather(book: &[u8], answers: &[u8], known: &[u8], level: usize) -> [u8; 2048]
+    requires { ⌜ Ready (now book) × (length (now answers) ≡ countOf (now book) 1)
+        × (countOf (now book) 4 ≤ length (now known)) ⌝ }
+    ensures { λ r. ⌜ Gathered (now (book .entry)) level (now (answers .entry)) (now (known .entry)) r
+        (countOf (now (book .entry)) 2) ⌝ }
+{
+    let m = count_of(book, 2);
+    let mut best = [2u8; 2048];
+    let mut k = 0;
+    while k < m {
+        let r = k;
+        k += 1;
+        let h = rule_head(book, r);
+        if pending(book, answers, level, h) {
+            best[h] = joined(best[h], body(book, answers, known, r));
+        }
+    }
+    best
+}

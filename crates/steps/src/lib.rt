@@ -1,0 +1,6 @@
+// The three steps of a level, and the round that takes them all at once.
+pub mod gather;
+pub mod round;
+pub mod settle;
+pub mod strike;
+pub mod truths;

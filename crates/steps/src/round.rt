@@ -1,0 +1,37 @@
+// A round: all three steps at once, from the answers before it.
+ghost use mathlib.Core.Path.{_≡_};
+ghost use lib.ListN.{length};
+ghost use Rattle.meaning.specs.Format.{countOf};
+ghost use Rattle.steps.specs.Work.{Ready};
+ghost use Rattle.steps.specs.Round.{Turn};
+use crate::gather::gather;
+use crate::settle::settle;
+use crate::strike::unfounded;
+use crate::truths::truths;
+
+// The answers after a round, whether it changed one, and how many rules are remembered.
+pub struct Turned {
+    pub answers: [u8; 2048],
+    pub changed: bool,
+    pub used: usize,
+}
+
+// The order is step (c)'s: it may hold anything, and no answer depends on it.
+pub fn round(book: &[u8], level: usize, before: &[u8], order: &mut [u16], used: usize) -> Turned
+    requires { ⌜ Ready (now book) × (length (now before) ≡ countOf (now book) 1) ⌝ }
+    ensures { λ r. ⌜ Turn (now (book .entry)) level (now (before .entry)) (r .answers) (r .changed) ⌝ }
+{
+    let n = before.len();
+    let known = truths(book, before);
+    let best = gather(book, before, &known, level);
+    let mut assumed = [0u8; 2048];
+    let end = unfounded(book, before, level, &mut assumed[..n], order, used);
+    let settled = settle(book, before, level, &best, &assumed[..n]);
+    let answers = settled.answers;
+    let changed = settled.changed;
+    Turned {
+        answers,
+        changed,
+        used: end,
+    }
+}
