@@ -1,4 +1,4 @@
-/* The engine's one entry: answers or one numbered refusal for any book and any room. */
+/* The engine's one entry: answers or one numbered refusal for any book and any room. For C99 and C++. */
 #ifndef DOUGHPILLAR_H
 #define DOUGHPILLAR_H
 
@@ -9,9 +9,60 @@
 extern "C" {
 #endif
 
-/* 0: accepted, and room[a] is 0 undefined, 1 true, 2 false for each atom a; later bytes stay.
-   Else number * 10000000 + table * 1000000 + record, and no byte of the room has changed. */
+/* Any bytes are a book, and any memory that can be written is a room: no caller has to check first. The two are separate
+   memory. A room of DOUGHPILLAR_MOST_ATOMS bytes is long enough for every book.
+
+   Returns 0 for an accepted book: room[a] is then one of the answers below, for each atom a, and later bytes stay.
+   Returns a packed refusal otherwise, and no byte of the room has changed. */
 uint32_t doughpillar_answer(const uint8_t *book, size_t book_length, uint8_t *room, size_t room_length);
+
+/* the answers */
+#define DOUGHPILLAR_UNDEFINED 0
+#define DOUGHPILLAR_TRUE 1
+#define DOUGHPILLAR_FALSE 2
+
+/* the limits of a book */
+#define DOUGHPILLAR_LARGEST_BOOK 64816 /* bytes */
+#define DOUGHPILLAR_MOST_PREDICATES 128
+#define DOUGHPILLAR_MOST_ATOMS 2048
+#define DOUGHPILLAR_MOST_RULES 2048
+#define DOUGHPILLAR_MOST_HYPOTHESES 4096
+#define DOUGHPILLAR_MOST_COMPARISONS 512
+#define DOUGHPILLAR_MOST_ELEMENTS 4096
+
+/* A packed refusal is number * 10000000 + table * 1000000 + record. Table and record are its place; 0, 0 is the book as
+   a whole, or for number 12 the room. */
+#define DOUGHPILLAR_NUMBER(packed) ((packed) / 10000000)
+#define DOUGHPILLAR_TABLE(packed) ((packed) / 1000000 % 10)
+#define DOUGHPILLAR_RECORD(packed) ((packed) % 1000000)
+
+/* What a refusal's number says, in words. */
+static inline const char *doughpillar_refusal(uint32_t packed)
+{
+    switch (DOUGHPILLAR_NUMBER(packed)) {
+    case 0: return "accepted";
+    case 1: return "the book is shorter than its table of contents, 48 bytes";
+    case 2: return "a count is above its limit";
+    case 3: return "an offset is not where the table before it ends, or the book does not end with its last table";
+    case 4: return "a code or a level that is not listed";
+    case 5: return "an index that is not in its table, or a range that leaves its table";
+    case 6: return "one atom stands twice in one comparison";
+    case 7: return "an answer is given for an atom that is not open, or that a rule concludes";
+    case 8: return "a predicate shares its level with a lower-numbered one, one certain and the other uncertain";
+    case 9: return "a rule uses a predicate of a higher level than its head's";
+    case 10: return "a certain head uses a predicate of its own level non-positively";
+    case 11: return "a certain head uses an uncertain predicate";
+    case 12: return "the answer room is shorter than the number of atoms";
+    default: return "not a refusal of this engine";
+    }
+}
+
+/* What the records of a refusal's table are; "book" for place 0, 0. */
+static inline const char *doughpillar_record_sort(uint32_t packed)
+{
+    static const char *const sorts[] = {"book", "predicate", "atom", "rule", "hypothesis", "comparison", "element"};
+    return DOUGHPILLAR_TABLE(packed) < 7 ? sorts[DOUGHPILLAR_TABLE(packed)] : "record";
+}
 
 #ifdef __cplusplus
 }
