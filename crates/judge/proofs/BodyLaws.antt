@@ -33,7 +33,7 @@ module _
     (l : h < countOf b 3)
     (es : s ≡ hypothesisIn b h .sort)
     (ei : i ≡ hypothesisIn b h .index) where
-  index-within : i < cond (ltb s 2) (countOf b 1) (countOf b 4)
+  pub index-within : i < cond (ltb s 2) (countOf b 1) (countOf b 4)
   index-within = rw (es, ei) (I .hypothesis h l)
 
   pub atom-of : countOf b 1 ≤ length W → s < 2 → i < length W
@@ -43,13 +43,13 @@ module _
   comparison-of m n = let p = rw (le-ltb s 2 n) at index-within in omega (arith, p, m)
 
 -- its truth, by its sort
-literal-sort : (A K : Answers) (s i : ℕ) → s < 2 → literalTruth A (literalOf s i) ≡ sortTruth A K s i
+pub literal-sort : (A K : Answers) (s i : ℕ) → s < 2 → literalTruth A (literalOf s i) ≡ sortTruth A K s i
 unfolding literalTruth
 literal-sort A K zero i l = refl
 literal-sort A K (suc zero) i l = refl
 literal-sort A K (suc (suc s)) i l = absurd (omega (arith, l))
 
-known-sort : (A K : Answers) (s i : ℕ) → 2 ≤ s → K i ≡ sortTruth A K s i
+pub known-sort : (A K : Answers) (s i : ℕ) → 2 ≤ s → K i ≡ sortTruth A K s i
 known-sort A K zero i l = absurd (omega (arith, l))
 known-sort A K (suc zero) i l = absurd (omega (arith, l))
 known-sort A K (suc (suc s)) i l = refl

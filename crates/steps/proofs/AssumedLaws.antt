@@ -1,39 +1,37 @@
 -- Why striking out finds the greatest unfounded set: the candidates are assumed at the start, no strike takes an atom
 -- of an unfounded set out, and where no rule strikes, what is left is unfounded. Assumes nothing.
 use mathlib.Core.Path.{_≡_, refl, sym, ap, _∙_, subst, fun-ext}
-use mathlib.Core.Logic.{inl, inr, by-cases}
+use mathlib.Core.Logic.{by-cases}
 use mathlib.Core.Bool.{Bool, true, false, not, cond, _&&_, So}
-use mathlib.Core.List.{List, [], _∷_}
-use Prim.Native.Nat.{ℕ, zero, suc, _+_, _<_, _≤_}
+use mathlib.Core.List.{List}
+use Prim.Native.Nat.{ℕ, _<_, _≤_}
 use native.Mathlib.Decide.{decLt}
 use native.Mathlib.Omega.{arith}
-use lib.Dec.{eqb, ltb}
-use lib.ListN.{length, length-map, length-set, set, take}
-use borrow.Author.Tests.{eq-eqb, eqb-false, eqb-true, le-ltb, not-false}
+use lib.Dec.{eqb}
+use lib.ListN.{length, length-map, length-set, set}
+use borrow.Author.Tests.{eq-eqb, eqb-false, eqb-true, not-false}
 use Rattle.laws.specs.Lists.{In}
-use Rattle.laws.proofs.Entries.{getD-in, in-drop, in-getD, in-map, in-take, map-in}
+use Rattle.laws.proofs.Entries.{getD-in, in-getD, in-map, map-in}
 use Rattle.laws.proofs.Places.{getD-out}
 use Rattle.laws.proofs.Tests.{and-fails, both, by-test, left, not-of, of-not, right, test-clash}
 use Rattle.theory.specs.Truth.{Truth, isFalse, isTrue, isUndefined, _≼_}
 use Rattle.theory.specs.Answers.{Answers, Atoms, NoneTrue, _⊑_, wipe}
 use Rattle.theory.proofs.Truth.{by-answer, false-of, true-of, undefined-of, undefined-true, undefined-false}
-use Rattle.theory.proofs.Answers.{⊑-refl, wipe-in}
-use Rattle.meaning.specs.Format.{HypothesisRecord, countOf, hypothesisAt, noHypothesis, noRule, ruleAt, tables}
+use Rattle.theory.proofs.Answers.{⊑-refl, ⊑-trans, wipe-in}
+use Rattle.meaning.specs.Format.{countOf, noRule, ruleAt, tables}
 use Rattle.meaning.specs.Reading.{Hypothesis, Kind, Rule, isClosed, reading, ruleOf, truthOf}
-use Rattle.meaning.specs.Truth.{bodyTruth, comparisonTruth, hypothesisTruth, meet}
+use Rattle.meaning.specs.Truth.{bodyTruth, hypothesisTruth}
 use Rattle.meaning.specs.Model.{membersOf, unfounded}
 use Rattle.meaning.specs.Founded.{Fails, Unfounded}
 use Rattle.meaning.proofs.Accepted.{kinds-length}
 use Rattle.meaning.proofs.Bodies.{body-false→, →body-false}
 use Rattle.meaning.proofs.Bytes.{atoms-length, body-length}
-use Rattle.meaning.proofs.Hypotheses.{hypothesis-local}
 use Rattle.meaning.proofs.KindLaws.{closed-of}
 use Rattle.meaning.proofs.Unfounded.{false→fails, greatest, is-unfounded, wider}
 use Rattle.book.specs.Framed.{Indexed}
-use Rattle.book.specs.Records.{comparisonRead, kindRead, levelRead, ruleIn, ruleRead}
-use Rattle.judge.specs.Held.{held, recordTruth, recordsTruth, ruleRecords, sortTruth}
-use Rattle.judge.proofs.BodyLaws.{known-body}
-use Rattle.steps.specs.Work.{Exact, Known, answersIn, levelsIn, rulesIn}
+use Rattle.book.specs.Records.{kindRead, levelRead, ruleIn, ruleRead}
+use Rattle.judge.specs.Held.{held}
+use Rattle.steps.specs.Work.{Exact, answersIn, levelsIn, rulesIn}
 use Rattle.steps.specs.Strike.{Assumed, Follows, candidateIn, onlyAssumed, strikesAt}
 use Rattle.steps.proofs.WorkLaws.{read-held, held-other, held-out, held-same}
 
@@ -99,61 +97,6 @@ assumed-start b n L W size long at = record {
   every = λ U u a m. let (k, l) = u .closed a m in of-candidate b n L a k l (u .none-true a m);
 }
 
--- a body that is false at more knowledge of comparisons
-meet-falls : (x y z w : Truth) → (x ≡ Truth.false → z ≡ Truth.false) → (y ≡ Truth.false → w ≡ Truth.false) →
-    meet x y ≡ Truth.false → meet z w ≡ Truth.false
-meet-falls x y z w f g e =
-    by-test (isFalse x) (λ t. rw (f (false-of x t)))
-    (λ n. by-test (isFalse y) (λ t. rw (g (false-of y t)) (falls z)) (λ m. absurd (neither x y n m e)))
-  where
-    falls : (z : Truth) → meet z Truth.false ≡ Truth.false
-    falls Truth.undefined = refl
-    falls Truth.true = refl
-    falls Truth.false = refl
-
-    neither : (x y : Truth) → isFalse x ≡ false → isFalse y ≡ false → meet x y ≡ Truth.false → ⊥
-    neither Truth.undefined y n m e = undefined-false refl (rw m at e)
-    neither Truth.true y n m e = test-clash (ap isFalse e) m
-    neither Truth.false y n m e = test-clash refl n
-
--- K has as false each comparison that is false at A
-module _ (b : List ℕ) (A K : Answers) (I : Indexed b)
-    (false-known : (c : ℕ) → c < countOf b 4 → comparisonTruth A (comparisonRead b c) ≡ Truth.false →
-    K c ≡ Truth.false) where
-  -- each comparison at A itself
-  abbrev fresh : Answers
-  fresh c = comparisonTruth A (comparisonRead b c)
-
-  sort-falls : (s i : ℕ) → i < cond (ltb s 2) (countOf b 1) (countOf b 4) → sortTruth A fresh s i ≡ Truth.false →
-      sortTruth A K s i ≡ Truth.false
-  sort-falls zero i l e = e
-  sort-falls (suc zero) i l e = e
-  sort-falls (suc (suc s)) i l e = false-known i (rw (le-ltb (suc (suc s)) 2 (omega arith)) at l) e
-
-  hypotheses-length : length (tables b .hypotheses) ≡ countOf b 3
-  unfolding tables
-  hypotheses-length = body-length hypothesisAt b 3
-
-  records-fall : (hs : List HypothesisRecord) → ((h : HypothesisRecord) → In h hs → In h (tables b .hypotheses)) →
-      recordsTruth A fresh hs ≡ Truth.false → recordsTruth A K hs ≡ Truth.false
-  unfolding recordsTruth
-  records-fall [] inside e = e
-  records-fall (h ∷ hs) inside e =
-      let (i, l, p) = in-getD noHypothesis (tables b .hypotheses) h (inside h (inl refl)) in
-      let at = rw p at (I .hypothesis i (omega (arith, l, hypotheses-length))) in
-      meet-falls (recordTruth A fresh h) (recordsTruth A fresh hs) (recordTruth A K h) (recordsTruth A K hs)
-      (sort-falls (h .sort) (h .index) at) (records-fall hs (λ x j. inside x (inr j))) e
-
-  -- so it has as false each body that is false at A
-  body-falls : (r : ℕ) → r < countOf b 2 → bodyTruth A (ruleRead b r .body) ≡ Truth.false →
-      recordsTruth A K (ruleRecords b r) ≡ Truth.false
-  body-falls r l e =
-      let past = ruleIn b r .first + ruleIn b r .many in
-      records-fall (ruleRecords b r)
-      (λ h j. in-take past (tables b .hypotheses) h
-      (in-drop (ruleIn b r .first) (take past (tables b .hypotheses)) h j))
-      (known-body b A fresh I (λ c _. refl) r l ∙ e)
-
 -- rule r of a book, among the rules as read
 rules-length : (b : List ℕ) → length (tables b .rules) ≡ countOf b 2
 unfolding tables
@@ -185,13 +128,13 @@ module _ (b : List ℕ) (n : ℕ) (L W : List ℕ) (w : Assumed b n L W) where
       (rw is-wiped (wider U (w .chosen) (held L) (w .every U u) none-true h f))
 
 -- what a strike says
-module _ (b L W K : List ℕ) (r : ℕ) where
+module _ (b L W : List ℕ) (r : ℕ) where
   abbrev only-assumed : Bool
   only-assumed = onlyAssumed L W (ruleIn b r .head)
 
-  pub strike-of : strikesAt b L W K r ≡ true → (held W (ruleIn b r .head) ≡ Truth.false)
+  pub strike-of : strikesAt b L W r ≡ true → (held W (ruleIn b r .head) ≡ Truth.false)
       × (held L (ruleIn b r .head) ≡ Truth.undefined)
-      × (recordsTruth (held W) (held K) (ruleRecords b r) ≡ Truth.false → ⊥)
+      × (bodyTruth (held W) (ruleRead b r .body) ≡ Truth.false → ⊥)
   unfolding strikesAt
   strike-of s =
       let o = left only-assumed _ s in (
@@ -201,21 +144,18 @@ module _ (b L W K : List ℕ) (r : ℕ) where
       )
 
   -- where a rule does not strike a head that is only assumed false, its body is false
-  no-strike : strikesAt b L W K r ≡ false → held W (ruleIn b r .head) ≡ Truth.false →
-      held L (ruleIn b r .head) ≡ Truth.undefined → recordsTruth (held W) (held K) (ruleRecords b r) ≡ Truth.false
+  no-strike : strikesAt b L W r ≡ false → held W (ruleIn b r .head) ≡ Truth.false →
+      held L (ruleIn b r .head) ≡ Truth.undefined → bodyTruth (held W) (ruleRead b r .body) ≡ Truth.false
   unfolding strikesAt
   no-strike s f u =
       let o : So only-assumed = both (ap isFalse f) (ap isUndefined u) in
       false-of _ (not-false _ (and-fails only-assumed _ o s))
 
   -- a strike leaves what is assumed so
-  module _ (n : ℕ) (I : Indexed b) (w : Assumed b n L W) (l : r < countOf b 2) (m : ruleIn b r .head < length W)
-      (s : strikesAt b L W K r ≡ true)
-      (false-known : (c : ℕ) → c < countOf b 4 → comparisonTruth (held W) (comparisonRead b c) ≡ Truth.false →
-      held K c ≡ Truth.false) where
+  module _ (n : ℕ) (w : Assumed b n L W) (l : r < countOf b 2) (m : ruleIn b r .head < length W)
+      (s : strikesAt b L W r ≡ true) where
     not-unfounded : (U : Atoms) → Unfounded (rulesIn b) (levelsIn b) n U (held L) → So (U (ruleIn b r .head)) → ⊥
-    not-unfounded U u i =
-        strike-of s .2 (body-falls b (held W) (held K) I false-known r l (unfounded-false b n L W w U u r l i))
+    not-unfounded U u i = strike-of s .2 (unfounded-false b n L W w U u r l i)
 
     struck : Assumed b n L (set W (ruleIn b r .head) 0)
     struck = let h = ruleIn b r .head in record {
@@ -302,11 +242,9 @@ module _ (b : List ℕ) (n : ℕ) (L W : List ℕ) (size : length L ≡ countOf 
           (λ t. absurd (none-true b n L W w a c t)) (λ v. v)
 
 -- so it is where no rule strikes
-pub quiet-exact : (b : List ℕ) (n : ℕ) (L W K : List ℕ) → Indexed b → length L ≡ countOf b 1 → Assumed b n L W →
-    Known b W K → ((r : ℕ) → r < countOf b 2 → strikesAt b L W K r ≡ false) → Exact b n L W
-quiet-exact b n L W K I size w k quiet =
-    refuted-exact b n L W size w
-    (λ r l f u. sym (known-body b (held W) (held K) I (k .truths) r l) ∙ no-strike b L W K r (quiet r l) f u)
+pub quiet-exact : (b : List ℕ) (n : ℕ) (L W : List ℕ) → length L ≡ countOf b 1 → Assumed b n L W →
+    ((r : ℕ) → r < countOf b 2 → strikesAt b L W r ≡ false) → Exact b n L W
+quiet-exact b n L W size w quiet = refuted-exact b n L W size w (λ r l f u. no-strike b L W r (quiet r l) f u)
 
 -- and where no atom is only assumed false
 pub settled-exact : (b : List ℕ) (n : ℕ) (L W : List ℕ) → Indexed b → length L ≡ countOf b 1 → Assumed b n L W →
@@ -315,30 +253,23 @@ settled-exact b n L W I size w none =
     refuted-exact b n L W size w
     (λ r l f u. test-clash (both (ap isFalse f) (ap isUndefined u)) (none (ruleIn b r .head) (I .head r l)))
 
--- strikes from B on, by truths of comparisons found at B
-module _ (b L B K : List ℕ) where
+-- an answer that is made undefined
+pub less-known : (W : List ℕ) (h : ℕ) → h < length W → held (set W h 0) ⊑ held W
+less-known W h m a =
+    by-test (eqb a h)
+    (λ t. let u : held (set W h 0) a ≡ Truth.undefined =
+    rw (eqb-true a h t) (held-same W h 0 Truth.undefined m refl) in
+    (λ e. absurd (undefined-true u e), λ e. absurd (undefined-false u e)))
+    (λ n. subst (λ (x : Truth). x ≼ held W a) (sym (held-other W h 0 a (eqb-false a h n))) (⊑-refl (held W) a))
+
+-- strikes from B on
+module _ (b L B : List ℕ) where
   pub follows-none : Follows b L B B
   follows-none = record { less = ⊑-refl (held B); keeps = λ n w. w }
 
-  -- a comparison that is false at less knowledge was false before
-  less-known : (W : List ℕ) → Known b B K → held W ⊑ held B → (c : ℕ) → c < countOf b 4 →
-      comparisonTruth (held W) (comparisonRead b c) ≡ Truth.false → held K c ≡ Truth.false
-  unfolding hypothesisTruth
-  less-known W k less c l e =
-      k .truths c l ∙
-      hypothesis-local (held W) (held B) (Hypothesis.comparison (comparisonRead b c)) (λ a _. less a) .1 e
-
-  pub follows-struck : (W : List ℕ) (r : ℕ) → Indexed b → Known b B K → length W ≡ countOf b 1 → r < countOf b 2 →
-      strikesAt b L W K r ≡ true → Follows b L B W → Follows b L B (set W (ruleIn b r .head) 0)
-  follows-struck W r I k size l s f =
-      let h = ruleIn b r .head in
-      let m : h < length W = omega (arith, I .head r l, size) in
-      record {
-        less = λ a.
-            by-test (eqb a h)
-            (λ t. let u : held (set W h 0) a ≡ Truth.undefined =
-            rw (eqb-true a h t) (held-same W h 0 Truth.undefined m refl) in
-            (λ e. absurd (undefined-true u e), λ e. absurd (undefined-false u e)))
-            (λ n. subst (λ (x : Truth). x ≼ held B a) (sym (held-other W h 0 a (eqb-false a h n))) (f .less a));
-        keeps = λ n w. struck b L W K r n I (f .keeps n w) l m s (less-known W k (f .less));
-      }
+  pub follows-struck : (W : List ℕ) (r : ℕ) → ruleIn b r .head < length W → r < countOf b 2 →
+      strikesAt b L W r ≡ true → Follows b L B W → Follows b L B (set W (ruleIn b r .head) 0)
+  follows-struck W r m l s f = let h = ruleIn b r .head in record {
+    less = ⊑-trans {A = held (set W h 0)} {B = held W} {C = held B} (less-known W h m) (f .less);
+    keeps = λ n w. struck b L W r n (f .keeps n w) l m s;
+  }

@@ -9,6 +9,8 @@ pub mod GatherLaws
 pub mod HeadLaws
 -- why striking out finds the greatest unfounded set
 pub mod AssumedLaws
+-- which rules have a false body at what is assumed
+pub mod FailLaws
 -- one rule's strike
 pub mod StrikeLaws
 -- passes over the rules

@@ -14,9 +14,10 @@ use Rattle.meaning.specs.Format.{countOf}
 use Rattle.meaning.specs.Reading.{truthOf}
 use Rattle.book.specs.Records.{ruleIn}
 use Rattle.judge.specs.Held.{held}
-use Rattle.steps.specs.Work.{Exact, Known, Ready}
-use Rattle.steps.specs.Strike.{Assumed, Ends, Follows, falses, onlyAssumed, strikesAt}
-use Rattle.steps.proofs.AssumedLaws.{follows-none, follows-struck, quiet-exact, settled-exact, strike-of}
+use Rattle.steps.specs.Work.{Exact, Ready}
+use Rattle.steps.specs.Strike.{Assumed, Ends, Follows, Lags, falses, onlyAssumed, strikesAt}
+use Rattle.steps.proofs.AssumedLaws.{follows-none, follows-struck, less-known, quiet-exact, settled-exact, strike-of}
+use Rattle.steps.proofs.FailLaws.{lags-less, lags-long, lags-start}
 
 -- a false answer that is made undefined
 one-fewer : (W : List ℕ) (i : ℕ) → i < length W → isFalse (truthOf (getD W i 0)) ≡ true →
@@ -27,57 +28,63 @@ one-fewer (x ∷ W) zero l e = rw e (omega arith)
 one-fewer (x ∷ W) (suc i) l e = omega (arith, one-fewer W i (omega (arith, l)) e)
 
 -- a strike at rule r's head
-module _ (b L K W : List ℕ) (m r h : ℕ) (s : Bool) (R : Ready b) (em : m ≡ countOf b 2)
-    (size : length W ≡ countOf b 1) (l : r < m) (e : h ≡ ruleIn b r .head) (p : s ≡ strikesAt b L W K r)
+module _ (b L W : List ℕ) (m r h : ℕ) (s : Bool) (R : Ready b) (em : m ≡ countOf b 2)
+    (size : length W ≡ countOf b 1) (l : r < m) (e : h ≡ ruleIn b r .head) (p : s ≡ strikesAt b L W r)
     (t : s ≡ true) where
   pub head-room : h < length W
   head-room = omega (arith, R .indexed .head r (omega (arith, em, l)), e, size)
 
-  pub strike-follows : (B : List ℕ) → Known b B K → Follows b L B W → Follows b L B (set W h 0)
-  strike-follows B k f =
-      rw e (follows-struck b L B K W r (R .indexed) k size (omega (arith, em, l)) (sym p ∙ t) f)
+  pub strike-follows : (B : List ℕ) → Follows b L B W → Follows b L B (set W h 0)
+  strike-follows B f = rw e (follows-struck b L B W r (rw (← e) head-room) (omega (arith, em, l)) (sym p ∙ t) f)
+
+  pub strike-lags : (K : List ℕ) → Lags b W K → Lags b (set W h 0) K
+  strike-lags K k = lags-less b W (set W h 0) K (less-known W h head-room) k
 
   strike-fewer : falses (set W h 0) + 1 ≡ falses W
   unfolding held
-  strike-fewer = one-fewer W h head-room (rw e (ap isFalse (strike-of b L W K r (sym p ∙ t) .0)))
+  strike-fewer = one-fewer W h head-room (rw e (ap isFalse (strike-of b L W r (sym p ∙ t) .0)))
 
   pub strike-lower : (u : ℕ) → falses W ≤ u → falses (set W h 0) ≤ u
   strike-lower u g = omega (arith, strike-fewer, g)
 
 -- A pass from B over the first k rules: each strike is counted, and if there was none, nothing has changed since B
 -- and none of them strikes there.
-pub record Passed (b L K B W : List ℕ) (struck k : ℕ) : Type 0 where
+pub record Passed (b L B W : List ℕ) (struck k : ℕ) : Type 0 where
   pub long : length W ≡ countOf b 1
   pub follows : Follows b L B W
   pub fewer : falses W + struck ≡ falses B
   pub same : struck ≡ 0 → W ≡ B
-  pub none : struck ≡ 0 → NoneTo (strikesAt b L B K) k
+  pub none : struck ≡ 0 → NoneTo (strikesAt b L B) k
 
-module _ (b L K B : List ℕ) where
-  pub passed-start : length B ≡ countOf b 1 → Passed b L K B B 0 0
+module _ (b L B : List ℕ) where
+  pub passed-start : length B ≡ countOf b 1 → Passed b L B B 0 0
   passed-start e = record {
     long = e;
-    follows = follows-none b L B B;
+    follows = follows-none b L B;
     fewer = omega arith;
     same = λ _. refl;
     none = λ _. none-start _;
   }
 
-  module _ (W : List ℕ) (d k : ℕ) (s : Bool) (q : Passed b L K B W d k) (p : s ≡ strikesAt b L W K k) where
+  module _ (W : List ℕ) (d k : ℕ) (s : Bool) (q : Passed b L B W d k) (p : s ≡ strikesAt b L W k) where
     pub passed-room : (h m : ℕ) → s ≡ true → Ready b → m ≡ countOf b 2 → k < m → h ≡ ruleIn b k .head → h < length W
-    passed-room h m t R em l e = head-room b L K W m k h s R em (q .long) l e p t
+    passed-room h m t R em l e = head-room b L W m k h s R em (q .long) l e p t
 
     pub passed-struck : (h m : ℕ) → s ≡ true → Ready b → m ≡ countOf b 2 → k < m → h ≡ ruleIn b k .head →
-        Known b B K → Passed b L K B (set W h 0) (d + 1) (k + 1)
-    passed-struck h m t R em l e known = record {
+        Passed b L B (set W h 0) (d + 1) (k + 1)
+    passed-struck h m t R em l e = record {
       long = length-set W h 0 ∙ q .long;
-      follows = strike-follows b L K W m k h s R em (q .long) l e p t B known (q .follows);
-      fewer = omega (arith, strike-fewer b L K W m k h s R em (q .long) l e p t, q .fewer);
+      follows = strike-follows b L W m k h s R em (q .long) l e p t B (q .follows);
+      fewer = omega (arith, strike-fewer b L W m k h s R em (q .long) l e p t, q .fewer);
       same = λ z. absurd (omega (arith, z));
       none = λ z. absurd (omega (arith, z));
     }
 
-    pub passed-more : s ≡ false → Passed b L K B W d (k + 1)
+    pub passed-lags : (K : List ℕ) (h m : ℕ) → Lags b W K → s ≡ true → Ready b → m ≡ countOf b 2 → k < m →
+        h ≡ ruleIn b k .head → Lags b (set W h 0) K
+    passed-lags K h m g t R em l e = strike-lags b L W m k h s R em (q .long) l e p t K g
+
+    pub passed-more : s ≡ false → Passed b L B W d (k + 1)
     passed-more f = record {
       long = q .long;
       follows = q .follows;
@@ -86,16 +93,15 @@ module _ (b L K B : List ℕ) where
       none = λ z. none-more _ k (q .none z) (rw (← q .same z) (sym p ∙ f));
     }
 
-  pub passed-ends : (W : List ℕ) (d k m : ℕ) → Passed b L K B W d k → Ready b → length L ≡ countOf b 1 →
-      m ≡ countOf b 2 → m ≤ k → Known b B K → Ends b L B W d
+  pub passed-ends : (W : List ℕ) (d k m : ℕ) → Passed b L B W d k → length L ≡ countOf b 1 → m ≡ countOf b 2 →
+      m ≤ k → Ends b L B W d
   unfolding NoneTo
-  passed-ends W d k m q R size em l known = record {
+  passed-ends W d k m q size em l = record {
     exact = λ z level w.
-        rw (q .same z)
-        (quiet-exact b level L B K (R .indexed) size w known (λ r o. q .none z r (omega (arith, o, em, l))));
+        rw (q .same z) (quiet-exact b level L B size w (λ r o. q .none z r (omega (arith, o, em, l))));
   }
 
-  pub passed-long : (W : List ℕ) (d k : ℕ) → Passed b L K B W d k → length W ≡ countOf b 1
+  pub passed-long : (W : List ℕ) (d k : ℕ) → Passed b L B W d k → length W ≡ countOf b 1
   passed-long W d k q = q .long
 
 pub still-long : (W : List ℕ) (h v n : ℕ) → length W ≡ n → length (set W h v) ≡ n
@@ -104,22 +110,31 @@ still-long W h v n e = length-set W h v ∙ e
 pub rule-short : (b : List ℕ) (n r : ℕ) → Ready b → n ≡ countOf b 2 → r < n → r < 2 ^ 16
 rule-short b n r R e l = omega (arith, R .framed .counts 2 (omega arith), e, l)
 
-pub known-long : (b B K : List ℕ) → Known b B K → countOf b 4 ≤ length K
-known-long b B K k = k .long
-
 -- two lists of one length
 pub as-long : (L W : List ℕ) (n : ℕ) → length W ≡ n → length L ≡ n → length W ≡ length L
 as-long L W n e f = e ∙ sym f
 
-pub ruleset trying = (follows-none, as-long, head-room, still-long, known-long, strike-follows, strike-lower)
+pub ruleset trying = (
+  follows-none,
+  lags-start,
+  lags-long,
+  as-long,
+  head-room,
+  still-long,
+  strike-follows,
+  strike-lags,
+  strike-lower,
+)
 
 pub ruleset passing = (
   as-long,
-  known-long,
+  lags-start,
+  lags-long,
   rule-short,
   passed-start,
   passed-room,
   passed-struck,
+  passed-lags,
   passed-more,
   passed-ends,
   passed-long,

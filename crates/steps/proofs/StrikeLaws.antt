@@ -2,7 +2,7 @@
 -- Assumes nothing.
 use mathlib.Core.Path.{_≡_, refl, sym, ap, _∙_}
 use mathlib.Core.Logic.{by-cases}
-use mathlib.Core.Bool.{true, false, not, _&&_}
+use mathlib.Core.Bool.{Bool, true, false, not, _&&_}
 use mathlib.Core.List.{List}
 use Prim.Native.Nat.{ℕ, zero, suc, _+_, _<_, _≤_}
 use native.Mathlib.Decide.{decLt}
@@ -16,9 +16,10 @@ use Rattle.theory.specs.Truth.{Truth, isFalse, isUndefined}
 use Rattle.theory.specs.Answers.{wipe}
 use Rattle.meaning.specs.Format.{countOf}
 use Rattle.meaning.specs.Reading.{codeOf, isClosed, kindOf, truthOf}
-use Rattle.book.specs.Records.{kindCode, kindRead, levelRead, ruleIn}
+use Rattle.meaning.specs.Truth.{bodyTruth}
+use Rattle.book.specs.Records.{kindCode, kindRead, levelRead, ruleIn, ruleRead}
 use Rattle.book.proofs.AtomLaws.{kind-read}
-use Rattle.judge.specs.Held.{held, recordsTruth, ruleRecords}
+use Rattle.judge.specs.Held.{held}
 use Rattle.judge.proofs.CodeLaws.{code-back, false-test, true-test}
 use Rattle.steps.specs.Work.{Ready}
 use Rattle.steps.specs.Strike.{Assumed, candidateIn, onlyAssumed, strikesAt}
@@ -111,23 +112,23 @@ undefined-code Truth.undefined x e = rw e
 undefined-code Truth.true x e = rw e
 undefined-code Truth.false x e = rw e
 
-module _ (b L W K : List ℕ) (r h : ℕ) (e : h ≡ ruleIn b r .head) where
+module _ (b L W : List ℕ) (r h : ℕ) (e : h ≡ ruleIn b r .head) where
   pub head-within : (X : List ℕ) → Ready b → length X ≡ countOf b 1 → r < countOf b 2 → h < length X
   head-within X R size l = omega (arith, R .indexed .head r l, e, size)
 
   module _ (x : ℕ) (p : x ≡ codeOf (held W h)) where
-    pub strike-not : (x ≡ 2 → ⊥) → false ≡ strikesAt b L W K r
+    pub strike-not : (x ≡ 2 → ⊥) → false ≡ strikesAt b L W r
     unfolding strikesAt
     strike-not f = rw (← e, false-code (held W h) x p, ne-eqb x 2 f)
 
     module _ (y : ℕ) (q : y ≡ codeOf (held L h)) (two : x ≡ 2) where
-      pub strike-decided : (y ≡ 0 → ⊥) → false ≡ strikesAt b L W K r
+      pub strike-decided : (y ≡ 0 → ⊥) → false ≡ strikesAt b L W r
       unfolding strikesAt
       strike-decided f =
           rw (← e, false-code (held W h) x p, eq-eqb x 2 two, undefined-code (held L h) y q, ne-eqb y 0 f)
 
-      pub strike-body : (v : ℕ) → y ≡ 0 → v ≡ codeOf (recordsTruth (held W) (held K) (ruleRecords b r)) →
-          not (eqb v 2) ≡ strikesAt b L W K r
+      pub strike-body : (v : Bool) → y ≡ 0 → v ≡ not (isFalse (bodyTruth (held W) (ruleRead b r .body))) →
+          v ≡ strikesAt b L W r
       unfolding strikesAt
       strike-body v z u =
           rw (
@@ -136,7 +137,7 @@ module _ (b L W K : List ℕ) (r h : ℕ) (e : h ≡ ruleIn b r .head) where
             eq-eqb x 2 two,
             undefined-code (held L h) y q,
             eq-eqb y 0 z,
-            false-code (recordsTruth (held W) (held K) (ruleRecords b r)) v u,
+            u,
           )
 
 pub ruleset striking = (head-within, strike-not, strike-decided, strike-body)

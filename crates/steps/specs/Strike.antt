@@ -3,16 +3,18 @@
 use mathlib.Core.Path.{_≡_}
 use mathlib.Core.Bool.{Bool, So, not, _&&_}
 use mathlib.Core.List.{List}
-use Prim.Native.Nat.{ℕ}
-use lib.ListN.{length}
+use Prim.Native.Nat.{ℕ, _<_}
+use lib.ListN.{length, getD}
 use Rattle.laws.proofs.Counting.{number}
-use Rattle.theory.specs.Truth.{isFalse, isUndefined}
-use Rattle.theory.specs.Answers.{Atoms, _⊑_, wipe}
+use Rattle.theory.specs.Truth.{Truth, isFalse, isUndefined}
+use Rattle.theory.specs.Answers.{Answers, Atoms, _⊑_, wipe}
+use Rattle.meaning.specs.Format.{countOf}
 use Rattle.meaning.specs.Reading.{truthOf}
+use Rattle.meaning.specs.Truth.{bodyTruth, comparisonTruth}
 use Rattle.meaning.specs.Model.{candidate}
 use Rattle.meaning.specs.Founded.{Unfounded}
-use Rattle.book.specs.Records.{ruleIn}
-use Rattle.judge.specs.Held.{held, recordsTruth, ruleRecords}
+use Rattle.book.specs.Records.{comparisonRead, hypothesisIn, ruleIn, ruleRead}
+use Rattle.judge.specs.Held.{held, recordTruth}
 use Rattle.steps.specs.Work.{Exact, levelsIn, rulesIn}
 
 -- the candidates of level n at the answers L: closed, of the level and not true
@@ -31,11 +33,22 @@ pub record Assumed (b : List ℕ) (n : ℕ) (L W : List ℕ) : Type 0 where
 abbrev pub onlyAssumed : List ℕ → List ℕ → ℕ → Bool
 onlyAssumed L W a = isFalse (held W a) && isUndefined (held L a)
 
--- Rule r strikes its head: that is only assumed false, and the body is not false at what is assumed. K has the
--- truths of comparisons.
-unfoldable pub strikesAt : (b L W K : List ℕ) → ℕ → Bool
-strikesAt b L W K r =
-    onlyAssumed L W (ruleIn b r .head) && not (isFalse (recordsTruth (held W) (held K) (ruleRecords b r)))
+-- Rule r strikes its head: that is only assumed false, and the body is not false at what is assumed.
+unfoldable pub strikesAt : (b L W : List ℕ) → ℕ → Bool
+strikesAt b L W r =
+    onlyAssumed L W (ruleIn b r .head) && not (isFalse (bodyTruth (held W) (ruleRead b r .body)))
+
+-- the truth of each comparison at what is assumed, and of hypothesis h
+abbrev pub freshAt : List ℕ → List ℕ → Answers
+freshAt b W c = comparisonTruth (held W) (comparisonRead b c)
+
+unfoldable pub failsAt : List ℕ → List ℕ → ℕ → Bool
+failsAt b W h = isFalse (recordTruth (held W) (freshAt b W) (hypothesisIn b h))
+
+-- K has 2 for each comparison that is false at W, and for others too that were false before or were not looked at.
+pub record Lags (b W K : List ℕ) : Type 0 where
+  pub long : length K ≡ 512
+  pub falls : (c : ℕ) → c < countOf b 4 → freshAt b W c ≡ Truth.false → getD K c 0 ≡ 2
 
 -- how many answers are false
 unfoldable pub falses : List ℕ → ℕ

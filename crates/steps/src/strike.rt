@@ -11,14 +11,13 @@ ghost use Rattle.meaning.specs.Format.{countOf};
 ghost use Rattle.meaning.specs.Reading.{codeOf};
 ghost use Rattle.judge.specs.Held.{held};
 ghost use Rattle.steps.specs.Work.{Exact, Ready};
-ghost use Rattle.steps.specs.Strike.{Assumed, Ends, Follows, candidateIn, falses, onlyAssumed, strikesAt};
-use crate::truths::truths;
+ghost use Rattle.steps.specs.Strike.{Assumed, Ends, Follows, Lags, candidateIn, falses, onlyAssumed, strikesAt};
+use crate::fails::supports;
 use book::atoms::kind_of;
 use book::atoms::level_of;
 use book::fields::rule_head;
 use book::readers::count_of;
 use book::verdict::short;
-use judge::body::body;
 use judge::literal::answer;
 
 // How many rules are remembered, and how many heads the last pass struck out.
@@ -61,12 +60,12 @@ fn assume(book: &[u8], answers: &[u8], level: usize, assumed: &mut [u8])
 }
 
 // Does rule r support a head that is undefined and only assumed false?
-fn strikes(book: &[u8], answers: &[u8], assumed: &[u8], known: &[u8], r: usize) -> bool
+fn strikes(book: &[u8], answers: &[u8], assumed: &[u8], known: &mut [u8], r: usize) -> bool
     requires { ⌜ Ready (now book) × (length (now answers) ≡ countOf (now book) 1)
-        × (length (now assumed) ≡ countOf (now book) 1) × (countOf (now book) 4 ≤ length (now known))
+        × (length (now assumed) ≡ countOf (now book) 1) × Lags (now book) (now assumed) (now known)
         × (r < countOf (now book) 2) ⌝ }
-    ensures { λ x. ⌜ x ≡ strikesAt (now (book .entry)) (now (answers .entry)) (now (assumed .entry))
-        (now (known .entry)) r ⌝ }
+    ensures is { λ x. ⌜ x ≡ strikesAt (now (book .entry)) (now (answers .entry)) (now (assumed .entry)) r ⌝ }
+    ensures lags { λ x. ⌜ Lags (now (book .entry)) (now (assumed .entry)) (now (known .exit)) ⌝ }
 {
     let h = rule_head(book, r);
     if answer(assumed, h) != 2 {
@@ -75,7 +74,7 @@ fn strikes(book: &[u8], answers: &[u8], assumed: &[u8], known: &[u8], r: usize) 
     if answer(answers, h) != 0 {
         return false;
     }
-    body(book, assumed, known, r) != 2
+    supports(book, assumed, known, r)
 }
 
 // How many rules of an order there are to try.
@@ -91,8 +90,7 @@ fn wide(x: u16) -> usize
     x as usize
 }
 
-// A first try: the rules of the order, which may hold anything. The comparisons' truths are those before the first
-// strike; an old truth can only make it strike less.
+// A first try: the rules of the order, which may hold anything.
 fn try_order(book: &[u8], answers: &[u8], assumed: &mut [u8], order: &[u16], used: usize)
     requires { ⌜ Ready (now book) × (length (now answers) ≡ countOf (now book) 1)
         × (length (now assumed) ≡ countOf (now book) 1) ⌝ }
@@ -101,14 +99,14 @@ fn try_order(book: &[u8], answers: &[u8], assumed: &mut [u8], order: &[u16], use
     ensures fewer { λ r. ⌜ falses (now (assumed .exit)) ≤ falses (now (assumed .entry)) ⌝ }
 {
     let rules = count_of(book, 2);
-    let known = truths(book, assumed);
     let end = within(used, order.len());
+    let mut known = [2u8; 512];
     let mut j = 0;
     while j < end {
         let r = wide(order[j]);
         j += 1;
         if r < rules {
-            if strikes(book, answers, assumed, &known, r) {
+            if strikes(book, answers, assumed, &mut known, r) {
                 let h = rule_head(book, r);
                 assumed[h] = 0;
             }
@@ -127,14 +125,14 @@ fn pass(book: &[u8], answers: &[u8], assumed: &mut [u8], order: &mut [u16], used
         (now (assumed .exit)) (s .struck) ⌝ }
 {
     let rules = count_of(book, 2);
-    let known = truths(book, assumed);
+    let mut known = [2u8; 512];
     let mut end = used;
     let mut struck = 0;
     let mut k = 0;
     while k < rules {
         let r = k;
         k += 1;
-        if strikes(book, answers, assumed, &known, r) {
+        if strikes(book, answers, assumed, &mut known, r) {
             let h = rule_head(book, r);
             assumed[h] = 0;
             struck += 1;

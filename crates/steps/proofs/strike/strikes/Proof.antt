@@ -1,5 +1,6 @@
 -- `strike::strikes` meets its contract. Assumes nothing.
 use borrow.Author.Needs.{needs}
+use Prim.Native.Nat.{_-_}
 use Rattle.steps.proofs.StrikeLaws.{striking}
 use Rattle.steps.proofs.strike.strikes.Statement.{statement}
 use Rattle.steps.proofs.strike.strikes.Tie as tie
@@ -9,4 +10,4 @@ strikes-spec =
     tie.close
     (tie.spec (λ c κs. search (needs, striking)) (λ c κs. search (needs, striking)) (λ c. search (needs, striking))
     (λ c κs. search (needs, striking)) (λ c. search (needs, striking)) (λ c κs. search (needs, striking))
-    (λ c. search (needs, striking)))
+    (λ c. search (needs, striking)) (λ c. search (needs, striking)))

@@ -4,28 +4,33 @@ use Prim.Native.Nat.{_-_, _≤_}
 use mathlib.Core.Path.{_≡_}
 use lib.ListN.{length}
 use Rattle.meaning.specs.Format.{countOf}
-use Rattle.steps.specs.Strike.{Follows, falses}
+use Rattle.steps.specs.Strike.{Follows, Lags, falses}
 use Rattle.steps.proofs.PassLaws.{trying}
 use Rattle.steps.proofs.strike.try_order.Statement.{statement}
 use Rattle.steps.proofs.strike.try_order.Tie as tie
 
 abbrev Inv-loop : tie.InvT-loop
-Inv-loop book answers assumed₀ order used rules known end j₀ assumed j =
-    (j ≤ end) × (length assumed ≡ countOf book 1) × Follows book answers assumed₀ assumed
-    × (falses assumed ≤ falses assumed₀)
+Inv-loop book answers assumed₀ order used rules end known₀ j₀ assumed known j =
+    (j ≤ end) × (length assumed ≡ countOf book 1) × Lags book assumed known
+    × Follows book answers assumed₀ assumed × (falses assumed ≤ falses assumed₀)
 
 abbrev μ-loop : tie.MeasureT-loop
-μ-loop book answers assumed₀ order used rules known end j₀ assumed j = end - j
+μ-loop book answers assumed₀ order used rules end known₀ j₀ assumed known j = end - j
 
 pub try-order-spec : {M : Type 1} → statement M
 try-order-spec =
     tie.close
     (tie.spec Inv-loop μ-loop (λ c κs. search (needs, trying)) (λ c κs. search (needs, trying))
+    (λ c. search (needs, trying)) (λ c. search (needs, trying)) (λ c. search (needs, trying))
     (λ c κs. search (needs, trying)) (λ c. search (needs, trying)) (λ c. search (needs, trying))
-    (λ c. search (needs, trying)) (λ c κs. search (needs, trying)) (λ c. search (needs, trying))
-    (λ c. search (needs, trying))
-    (λ c κs. (search needs, search needs, search (needs, trying), search (needs, trying), search (needs, trying)))
+    (λ c κs. (search needs, search needs, search (needs, trying), search needs, search (needs, trying)))
     (λ c κs. search (needs, trying)) (λ c. search (needs, trying)) (λ c. search (needs, trying))
-    (λ c. (search needs, search (needs, trying), search (needs, trying), search (needs, trying)))
+    (λ c. (
+      search needs,
+      search (needs, trying),
+      search (needs, trying),
+      search (needs, trying),
+      search (needs, trying),
+    ))
     (λ c. search (needs, trying)) (λ c. search (needs, trying)) (λ c. search (needs, trying))
     (λ c. search (needs, trying)) (λ c. search (needs, trying)) (λ c. search (needs, trying)))
