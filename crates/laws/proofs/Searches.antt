@@ -71,6 +71,17 @@ module _ {X : Type 0} (f : ℕ → X → Bool) (d : X) where
       (subst (λ (n : ℕ). So (f n (getD xs k d))) (sym (zero-add k)) at) ∙
       ap some (zero-add k)
 
+-- what a search finds is a place of the list
+pub seek-below : {X : Type 0} (f : ℕ → X → Bool) (i : ℕ) (xs : List X) (k : ℕ) → seek f i xs ≡ some k →
+    k < i + length xs
+seek-below f i [] k e = absurd (some≢none (sym e))
+seek-below f i (x ∷ xs) k e = go (f i x) (seek f (suc i) xs) (seek-below f (suc i) xs k) e
+  where
+    go : (t : Bool) (o : Option ℕ) → (o ≡ some k → k < suc i + length xs) → cond t (some i) o ≡ some k →
+        k < i + suc (length xs)
+    go true o h e = let q : i ≡ k = cc in omega (arith, q)
+    go false o h e = omega (arith, h e)
+
 -- A table's rule, proved at all its entries by one search that is computed: none is against it.
 pub table-rule : (f : ℕ → ℕ → Bool) (xs : List ℕ) → seek (λ k x. not (f k x)) 0 xs ≡ none → (k : ℕ) → k < length xs →
     So (f k (getD xs k 0))

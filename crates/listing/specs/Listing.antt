@@ -1,0 +1,21 @@
+-- What is promised of the program's text, for every book, in the words of refusals and of the model: document 01,
+-- "Examples to build against", its last part. Assumes nothing.
+use Prim.Native.Nat.{ℕ, _<_}
+use mathlib.Core.Path.{_≡_}
+use mathlib.Core.List.{List, map}
+use mathlib.Core.Option.{some}
+use Rattle.meaning.specs.Format.{countOf}
+use Rattle.meaning.specs.Reading.{codeOf}
+use Rattle.meaning.specs.Refusal.{Refusal, refusal}
+use Rattle.meaning.specs.Demands.{Accepted}
+use Rattle.meaning.specs.Outcome.{modelOf}
+use Rattle.listing.specs.Text.{answersText, refusedText, roomLength}
+
+pub record Listing (text : List ℕ → List ℕ) : Type 0 where
+  -- A refused book gives one line: `refused`, number, table, record.
+  pub refused : (b : List ℕ) (r : Refusal) → refusal b roomLength ≡ some r →
+      text b ≡ refusedText (r .number) (r .table) (r .row)
+  -- First the number of atoms; then atom index and answer, in index order.
+  pub answered : (b : List ℕ) → Accepted b roomLength → text b ≡ answersText (countOf b 1) (map codeOf (modelOf b))
+  -- The program's room is always long enough.
+  pub enough : (b : List ℕ) (r : Refusal) → refusal b roomLength ≡ some r → r .number < 12

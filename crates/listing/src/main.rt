@@ -1,0 +1,22 @@
+// Reads a book from standard input and prints its listing: one write of the whole text.
+mod list;
+mod text;
+
+use crate::list::TEXT;
+use crate::list::list;
+use libc::STDERR_FILENO;
+use libc::STDIN_FILENO;
+use libc::STDOUT_FILENO;
+
+// One byte more than the largest book has: a longer book has the refusal of its start.
+const BOOK: usize = 64817;
+
+fn main() {
+    let mut book = [0u8; BOOK];
+    let n = io::read_full(STDIN_FILENO, &mut book);
+    let mut out = [0u8; TEXT];
+    let end = list(&book[..n], &mut out);
+    if !io::write_all(STDOUT_FILENO, &out[..end]) {
+        io::write_all(STDERR_FILENO, b"listing: the text could not be written\n");
+    }
+}
