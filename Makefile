@@ -1,12 +1,46 @@
-# make test: the layout, then every crate proved from nothing and every must-fail edit refused.
-# make caller: proves and archives the engine, and answers a sample book from C.
-.PHONY: test caller
+# The engine's library, and the second program that is compared with it.
+LIBRARY := target/staticlib/libengine.a
+SECOND := --manifest-path second/Cargo.toml
+BUILD_SECOND := cargo build --quiet --release --offline --locked $(SECOND) --target-dir target/second
 
+.PHONY: test library run host compare bench
+
+# make test: the layout, the library as C has it, the comparison with the second program, and last every crate proved
+# from nothing and every must-fail edit refused. The last line is rt ci's own.
 test:
 	@rt fmt --check
+	@cargo fmt --check $(SECOND)
+	@$(MAKE) --no-print-directory --always-make library
+	@tests/host/run
+	@$(MAKE) --no-print-directory compare
 	@rt ci
 
-caller:
-	@mkdir -p target; rt staticlib engine > target/staticlib.log 2>&1 || { cat target/staticlib.log; exit 1; }
-	@cc -std=c99 -Wall -Wextra -Werror -O2 -Iinclude tests/c/caller.c target/staticlib/libengine.a -o target/caller
-	@target/caller
+# make library: proves the engine and archives it, if a crate has changed.
+library: $(LIBRARY)
+
+$(LIBRARY): crates.txt $(shell find crates)
+	@mkdir -p target
+	@rt staticlib engine > target/library.log 2>&1 || { cat target/library.log; exit 1; }
+
+# make run: proves the listing program and answers the sample book with it, the atoms' names beside the answers.
+run:
+	@mkdir -p target
+	@rt check listing > target/run.log 2>&1 || { cat target/run.log; exit 1; }
+	@target/bin/listing < samples/night.book > target/night.answers
+	@awk 'NR == FNR { name[NR - 1] = $$0; next } FNR > 1 { $$0 = sprintf("%-14s ", $$0) name[$$1] } { print }' \
+		samples/night.names target/night.answers
+
+# make host: the example host in C, target/host/logger.
+host: library
+	@mkdir -p target/host
+	@cc -std=c99 -Wall -Wextra -Werror -O2 -Iinclude host/logger.c $(LIBRARY) -o target/host/logger
+
+# make compare: the engine and the second program on the fixtures, at the limits and on 200,000 seeded books.
+compare: library
+	@$(BUILD_SECOND)
+	@target/second/release/compare
+
+# make bench: times and stack of both programs, in one table.
+bench: library
+	@$(BUILD_SECOND)
+	@target/second/release/bench

@@ -1,7 +1,9 @@
-/* A C host in small: one book that is answered, and the same book refused for its length and for its room. */
+/* A C caller in small: one book answered, and refused for its length and for its room; no byte around the room changes.
+   Book and room have memory of just their length, so that valgrind sees any byte that is read or written outside. */
 #include "doughpillar.h"
 
 #include <stdio.h>
+#include <stdlib.h>
 #include <string.h>
 
 /* 0 stamped (open, not given), 1 screened (complete) if not stamped, 2 looped (closed) if looped, 3 built (certain) */
@@ -21,29 +23,52 @@ static const uint8_t book[] = {
     0, 2, 0,          /* looped */
 };
 
+/* Before the call every byte of the room, and of the guards on both sides of it, is 9. */
+#define BEFORE 9
+
 static int faults = 0;
 
-static void expect(const char *what, size_t length, size_t size, uint32_t number, const uint8_t after[6])
+static void expect_guarded(const char *what, size_t length, size_t size, uint32_t number, const uint8_t *answers,
+                           size_t guard)
 {
-    uint8_t room[6];
-    memset(room, 9, sizeof room);
-    uint32_t returned = doughpillar_answer(book, length, room, size);
-    if (returned != number || memcmp(room, after, sizeof room) != 0) {
-        printf("%s: returned %u\n", what, (unsigned)returned);
-        faults++;
+    uint8_t *bytes = malloc(length), *memory = malloc(size + 2 * guard);
+    memcpy(bytes, book, length);
+    memset(memory, BEFORE, size + 2 * guard);
+    uint32_t returned = doughpillar_answer(bytes, length, memory + guard, size);
+    int wrong = returned != number;
+    for (size_t at = 0; at < size + 2 * guard; at++) {
+        int answered = number == 0 && at >= guard && at < guard + 4;
+        wrong |= memory[at] != (answered ? answers[at - guard] : BEFORE);
     }
+    if (wrong)
+        printf("%s, guards of %u: returned %u\n", what, (unsigned)guard, (unsigned)returned);
+    faults += wrong;
+    free(bytes);
+    free(memory);
+}
+
+/* The number, and for 0 the answers of the four atoms: in memory of just the room's length, then between guards. */
+static void expect(const char *what, size_t length, size_t size, uint32_t number)
+{
+    static const uint8_t answers[4] = {
+        DOUGHPILLAR_UNDEFINED, DOUGHPILLAR_UNDEFINED, DOUGHPILLAR_FALSE, DOUGHPILLAR_TRUE
+    };
+    expect_guarded(what, length, size, number, answers, 0);
+    expect_guarded(what, length, size, number, answers, 8);
 }
 
 int main(void)
 {
-    const uint8_t answered[6] = {0, 0, 2, 1, 9, 9}, unchanged[6] = {9, 9, 9, 9, 9, 9};
-    expect("answered", sizeof book, 6, 0, answered);
-    expect("answered in a room of four", sizeof book, 4, 0, answered);
-    expect("room of three", sizeof book, 3, 120000000, unchanged);
-    expect("no room", sizeof book, 0, 120000000, unchanged);
-    expect("47 bytes", 47, 6, 10000000, unchanged);
-    expect("no book", 0, 6, 10000000, unchanged);
-    expect("one byte short", sizeof book - 1, 6, 30000000, unchanged);
+    expect("answered", sizeof book, 6, 0);
+    expect("answered in the longest room", sizeof book, DOUGHPILLAR_MOST_ATOMS, 0);
+    expect("answered in a room of four", sizeof book, 4, 0);
+    expect("room of three", sizeof book, 3, 120000000);
+    expect("no room", sizeof book, 0, 120000000);
+    expect("47 bytes", 47, 6, 10000000);
+    expect("no book", 0, 6, 10000000);
+    expect("no book and no room", 0, 0, 10000000);
+    expect("one byte short", sizeof book - 1, 6, 30000000);
+    expect("the table of contents alone", 48, 6, 30000000);
     printf("C caller: %d faults\n", faults);
     return faults != 0;
 }

@@ -1,0 +1,44 @@
+// The second program, written from document 01 alone, and what compares it with the engine.
+
+pub mod builder;
+pub mod damage;
+pub mod engine;
+pub mod families;
+pub mod faults;
+pub mod fixtures;
+pub mod full;
+pub mod generate;
+pub mod gifts;
+pub mod limits;
+pub mod model;
+pub mod parts;
+pub mod random;
+pub mod read;
+pub mod recursion;
+pub mod refuse;
+pub mod rooms;
+pub mod sample;
+pub mod seeds;
+pub mod show;
+pub mod stack;
+pub mod tables;
+pub mod tally;
+pub mod truth;
+pub mod uses;
+pub mod witness;
+
+/// The form of both programs: a book and a room to the packed number.
+pub type Program = fn(&[u8], &mut [u8]) -> u32;
+
+/// The second program: 0 and the answers in the room, or the packed refusal and the room as it was.
+pub fn answer(book: &[u8], room: &mut [u8]) -> u32 {
+    match refuse::check(book, room.len()) {
+        Err(refusal) => refusal.packed(),
+        Ok(tables) => {
+            for (atom, answer) in model::answers(&tables).into_iter().enumerate() {
+                room[atom] = answer.code();
+            }
+            0
+        }
+    }
+}

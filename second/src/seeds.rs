@@ -1,0 +1,46 @@
+// One seed: its book in three rooms, its gift where it can have one, and for every fourth seed its damaged copy.
+
+use crate::random::Random;
+use crate::tally::Tally;
+use crate::{damage, generate, gifts, read, refuse, rooms, show};
+
+/// Compares everything that a seed stands for; an error says what differs.
+pub fn compare(seed: u64, tally: &mut Tally) -> Result<(), String> {
+    let book = generate::book(seed);
+    let outcomes = rooms::compare_all(&book, seed)?;
+    let tables = (outcomes.exact.number == 0).then(|| read::tables(&book));
+    tally.count(&outcomes, tables.as_ref());
+    if let Some(tables) = tables {
+        if let Some(with_gifts) = gifts::with_gifts(&tables, seed) {
+            let gift = gifts::compare(&with_gifts, outcomes.exact.room(), seed);
+            tally.count_gift(&gift.map_err(|why| format!("gift: {why}"))?);
+        }
+    }
+    if seed.is_multiple_of(4) {
+        rooms::compare_all(&damaged(seed), seed).map_err(|why| format!("damaged bytes: {why}"))?;
+        tally.damaged += 1;
+    }
+    Ok(())
+}
+
+/// The damaged copy of a seed's book.
+fn damaged(seed: u64) -> Vec<u8> {
+    damage::damaged(generate::book(seed), &mut Random::new(seed ^ 0x6272_6f6b_656e))
+}
+
+/// Prints everything that a seed stands for.
+pub fn show(seed: u64) {
+    let book = generate::book(seed);
+    println!("seed {seed}");
+    show::book(&book, seed);
+    if let Ok(tables) = refuse::check(&book, usize::MAX) {
+        if let Some(with_gifts) = gifts::with_gifts(&tables, seed) {
+            println!("seed {seed} with gifts");
+            show::book(&with_gifts.bytes(), seed);
+        }
+    }
+    if seed.is_multiple_of(4) {
+        println!("seed {seed} with damaged bytes");
+        show::book(&damaged(seed), seed);
+    }
+}
