@@ -3,15 +3,17 @@ LIBRARY := target/staticlib/libengine.a
 SECOND := --manifest-path second/Cargo.toml
 BUILD_SECOND := cargo build --quiet --release --offline --locked $(SECOND) --target-dir target/second
 
-.PHONY: test library run host compare bench
+.PHONY: test library listing run host compare bench
 
-# make test: the layout, the library as C has it, the comparison with the second program, and last every crate proved
-# from nothing and every must-fail edit refused. The last line is rt ci's own.
+# make test: the layout, the library as C has it, the listing program, the comparison with the second program, and last
+# every crate proved from nothing and every must-fail edit refused. The last line is rt ci's own.
 test:
 	@rt fmt --check
 	@cargo fmt --check $(SECOND)
 	@$(MAKE) --no-print-directory --always-make library
 	@tests/host/run
+	@$(MAKE) --no-print-directory --always-make listing
+	@tests/listing/run
 	@$(MAKE) --no-print-directory compare
 	@rt ci
 
@@ -22,13 +24,17 @@ $(LIBRARY): crates.txt $(shell find crates)
 	@mkdir -p target
 	@rt staticlib engine > target/library.log 2>&1 || { cat target/library.log; exit 1; }
 
-# make run: proves the listing program and answers the sample book with it, the atoms' names beside the answers.
-run:
+# make listing: proves the listing program and links it, if a crate has changed.
+listing: target/bin/listing
+
+target/bin/listing: crates.txt $(shell find crates)
 	@mkdir -p target
-	@rt check listing > target/run.log 2>&1 || { cat target/run.log; exit 1; }
-	@target/bin/listing < samples/night.book > target/night.answers
-	@awk 'NR == FNR { name[NR - 1] = $$0; next } FNR > 1 { $$0 = sprintf("%-14s ", $$0) name[$$1] } { print }' \
-		samples/night.names target/night.answers
+	@rt check listing > target/listing.log 2>&1 || { cat target/listing.log; exit 1; }
+
+# make run: answers the sample book with the listing program, the atoms' names beside the answers.
+run: listing
+	@target/bin/listing < samples/night.book | awk 'NR == FNR { name[NR - 1] = $$0; next } \
+		FNR > 1 { $$0 = sprintf("%-14s ", $$0) name[$$1] } { print }' samples/night.names -
 
 # make host: the example host in C, target/host/logger.
 host: library

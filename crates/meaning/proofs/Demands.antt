@@ -1,13 +1,19 @@
--- The three demands hold of any entry whose result is the outcome; an outcome is unique. Assumes nothing.
-use mathlib.Core.Path.{_≡_, sym, ap, _∙_, subst}
+-- The three demands hold of any entry whose result is the outcome, and of no other; an outcome is unique. Assumes
+-- nothing.
+use mathlib.Core.Path.{_≡_, refl, sym, ap, ap₂, _∙_, subst}
+use mathlib.Core.Logic.{by-cases}
+use mathlib.Core.Option.{Option, none, some}
 use mathlib.Core.List.{List}
-use Prim.Native.Nat.{ℕ}
+use Prim.Native.Nat.{ℕ, _≤_}
+use native.Mathlib.Decide.{decLt}
 use native.Mathlib.Omega.{arith}
 use lib.ListN.{length}
+use lib.Seq.{ext-getD}
 use Rattle.theory.specs.Truth.{Truth}
 use Rattle.theory.specs.Answers.{_⊑_}
 use Rattle.meaning.specs.Format.{Tables, tables}
 use Rattle.meaning.specs.Reading.{givenOf, levelsOf, reading}
+use Rattle.meaning.specs.Refusal.{Refusal, refusal}
 use Rattle.meaning.specs.Model.{answersOf}
 use Rattle.meaning.specs.Outcome.{Outcome, modelOf, outcome}
 use Rattle.meaning.specs.Founded.{Founded}
@@ -75,3 +81,29 @@ demands entry is = record {
 -- any two outcomes that the promise admits are equal
 pub outcome-unique : (b room : List ℕ) (o o′ : Outcome) → o ≡ outcome b room → o′ ≡ outcome b room → o ≡ o′
 outcome-unique b room o o′ p q = p ∙ sym q
+
+-- a room that is filled has its bytes from the answers and from what it was
+filled-unique : (A : List Truth) (room after other : List ℕ) → Filled A room after → Filled A room other →
+    after ≡ other
+filled-unique A room after other F G =
+    ext-getD 0 after other (F .long ∙ sym (G .long))
+    (λ i _. by-cases (decLt i (length A)) (λ l. F .answer i l ∙ sym (G .answer i l))
+    (λ n. let l : length A ≤ i = omega (arith, n) in F .later i l ∙ sym (G .later i l)))
+
+same-outcome : (o o′ : Outcome) → o .number ≡ o′ .number → o .room ≡ o′ .room → o ≡ o′
+same-outcome o o′ p q = ap₂ (λ (n : ℕ) (l : List ℕ). record { number = n; room = l }) p q
+
+-- the demands admit one entry
+pub demands-unique : (entry other : List ℕ → List ℕ → Outcome) → Demands entry → Demands other → (b room : List ℕ) →
+    entry b room ≡ other b room
+demands-unique entry other D E b room = go (refusal b (length room)) refl
+  where
+    go : (o : Option Refusal) → refusal b (length room) ≡ o → entry b room ≡ other b room
+    go none e =
+        let (A, f, _, F) = D .answers b room e in
+        let (B, g, _, G) = E .answers b room e in
+        let same : B ≡ A = D .unique b (length room) e B A g f in
+        same-outcome (entry b room) (other b room) (D .accepts b room e ∙ sym (E .accepts b room e))
+        (filled-unique A room (entry b room .room) (other b room .room) F
+        (subst (λ (X : List Truth). Filled X room (other b room .room)) same G))
+    go (some r) e = D .refuses b room r e ∙ sym (E .refuses b room r e)
