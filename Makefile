@@ -9,7 +9,6 @@ BUILD_SECOND := cargo build --quiet --release --offline --locked $(SECOND) --tar
 # every crate proved from nothing and every must-fail edit refused. The last line is rt ci's own.
 test:
 	@rt fmt --check
-	@cargo fmt --check $(SECOND)
 	@$(MAKE) --no-print-directory --always-make library
 	@tests/host/run
 	@$(MAKE) --no-print-directory --always-make listing
