@@ -9,27 +9,5 @@ pub mod Places
 pub mod FieldLaws
 -- kinds and levels of atoms
 pub mod AtomLaws
--- verdicts and chains of them
-pub mod VerdictLaws
--- searches for the lowest record at fault
-pub mod LowestLaws
--- checks 1 to 3
-pub mod FrameLaws
--- checks 4 and 5
-pub mod RecordLaws
--- what check 5 gives
+-- what the absence of refusal 5 gives
 pub mod IndexLaws
--- check 6
-pub mod PairLaws
--- check 7
-pub mod GivenLaws
--- check 8
-pub mod MixtureLaws
--- checks 9 to 11: which uses are positive
-pub mod SignLaws
--- one use, one comparison, one hypothesis
-pub mod UseLaws
--- one rule, and all of them
-pub mod RuleLaws
--- the chain of all twelve
-pub mod CheckLaws

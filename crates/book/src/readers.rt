@@ -1,15 +1,14 @@
-// Numbers of a book, little-endian, and where its tables stand.
+// Numbers of a book, little-endian, and where its tables stand. A reader asks that its bytes are there, and so pays for
+// no check: the table of contents is there after check 1, and a record where `place` says, after checks 1 to 3.
 ghost use mathlib.Core.Path.{_≡_};
 ghost use Prim.Native.Nat.{_+_, _*_, _^_, _<_, _≤_};
 ghost use lib.IntN.{natAbs};
 ghost use lib.ListN.{length, getD};
-ghost use Rattle.meaning.specs.Format.{contents, countOf, i32At, limits, offsetOf, signed, sizes, u16At, u32At, u8At};
+ghost use Rattle.meaning.specs.Format.{contents, countOf, i32At, offsetOf, signed, sizes, u16At, u32At, u8At};
 ghost use Rattle.book.specs.Framed.{Framed, Place};
 
-// Bytes of a record of the tables 1 to 6, and then most records.
+// Bytes of a record of the tables 1 to 6.
 const SIZES: [usize; 6] = [2, 3, 6, 3, 10, 7];
-
-const LIMITS: [usize; 6] = [128, 2048, 2048, 4096, 512, 4096];
 
 fn wide(x: u8) -> usize
     ensures { λ r. ⌜ (r ≡ x) × (r < 256) ⌝ }
@@ -57,22 +56,16 @@ pub(crate) fn signed_at(book: &[u8], i: usize) -> i64
     signed_of(long(book, i))
 }
 
-pub(crate) fn size_of(k: usize) -> usize
+// k is one of six: a loop over the tables, or a field's own.
+pub fn size_of(k: usize) -> usize
     requires { ⌜ k < 6 ⌝ }
     ensures { λ r. ⌜ r ≡ getD sizes k 0 ⌝ }
 {
     SIZES[k]
 }
 
-pub(crate) fn limit_of(k: usize) -> usize
-    requires { ⌜ k < 6 ⌝ }
-    ensures { λ r. ⌜ r ≡ getD limits k 0 ⌝ }
-{
-    LIMITS[k]
-}
-
 // The table of contents, its entries numbered from 0.
-pub(crate) fn offset_of(book: &[u8], k: usize) -> usize
+pub fn offset_of(book: &[u8], k: usize) -> usize
     requires { ⌜ (contents ≤ length (now book)) × (k < 6) ⌝ }
     ensures { λ r. ⌜ (r ≡ offsetOf (now (book .entry)) k) × (r < 2 ^ 32) ⌝ }
 {
@@ -92,4 +85,19 @@ pub(crate) fn place(book: &[u8], k: usize, i: usize) -> usize
     ensures { λ r. ⌜ Place (now (book .entry)) k i r ⌝ }
 {
     offset_of(book, k) + size_of(k) * i
+}
+
+// Numbers that are known to be small, in fewer bits: the number of a check, a table or a record, or a code.
+pub fn narrow(x: usize) -> u8
+    requires { ⌜ x < 256 ⌝ }
+    ensures { λ r. ⌜ r ≡ x ⌝ }
+{
+    x as u8
+}
+
+pub fn short(x: usize) -> u16
+    requires { ⌜ x < 2 ^ 16 ⌝ }
+    ensures { λ r. ⌜ r ≡ x ⌝ }
+{
+    x as u16
 }

@@ -12,12 +12,12 @@ use Rattle.meaning.specs.Outcome.{Outcome, modelOf, outcome, written}
 use Rattle.meaning.proofs.Absent.{none-each}
 use Rattle.meaning.proofs.Bytes.{atoms-length}
 use Rattle.meaning.proofs.Rooms.{accepted, refused, room-enough}
-use Rattle.book.specs.Verdicts.{packedOf, verdictOf}
-use Rattle.book.specs.declared.verdict.Verdict.{Verdict}
-use Rattle.book.specs.declared.verdict.Verdict.the-variants.{Passed, Refused}
-use Rattle.book.proofs.FrameLaws.{framed}
+use Rattle.checks.specs.Verdicts.{packedOf, verdictOf}
+use Rattle.checks.specs.declared.verdict.Verdict.{Verdict}
+use Rattle.checks.specs.declared.verdict.Verdict.the-variants.{Passed, Refused}
+use Rattle.checks.proofs.FrameLaws.{framed}
 use Rattle.book.proofs.IndexLaws.{indexed}
-use Rattle.book.proofs.VerdictLaws.{passed-none, refused-some}
+use Rattle.checks.proofs.VerdictLaws.{passed-none, refused-some}
 use Rattle.steps.specs.Work.{Ready, answersIn}
 use Rattle.steps.proofs.WorkLaws.{prefix-count, prefix-length, prefix-room}
 

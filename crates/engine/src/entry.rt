@@ -3,10 +3,10 @@ ghost use mathlib.Core.Path.{_≡_};
 ghost use Rattle.meaning.specs.Outcome.{outcome};
 use crate::solve::solve;
 use crate::write::write_answers;
-use book::check::check;
 use book::readers::count_of;
-use book::verdict::Verdict;
-use book::verdict::packed;
+use checks::check::check;
+use checks::verdict::Verdict;
+use checks::verdict::packed;
 
 #[no_mangle]
 pub extern "C" fn doughpillar_answer(book: &[u8], room: &mut [u8]) -> u32

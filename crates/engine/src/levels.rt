@@ -13,7 +13,7 @@ use book::atoms::is_certain;
 use book::atoms::level_of;
 use book::fields::atom_given;
 use book::readers::count_of;
-use book::verdict::narrow;
+use book::readers::narrow;
 use judge::literal::answer;
 use steps::gather::pending;
 

@@ -14,7 +14,7 @@ use Rattle.meaning.specs.Outcome.{Outcome, outcome}
 use Rattle.meaning.proofs.Absent.{none-each}
 use Rattle.meaning.proofs.Bytes.{atoms-length}
 use Rattle.meaning.proofs.Rooms.{refused, room-enough}
-use Rattle.book.proofs.FrameLaws.{framed}
+use Rattle.checks.proofs.FrameLaws.{framed}
 use Rattle.listing.specs.Put.{Put}
 use Rattle.listing.specs.Text.{answersText, listingOf, packedText, roomLength, textOf}
 use Rattle.listing.proofs.PutLaws.{put-start}

@@ -14,10 +14,10 @@ use Rattle.meaning.specs.Reading.{levelsOf, reading, ruleOf}
 use Rattle.meaning.specs.Refusal.{Refusal, astray, firstOf, misplaced, refusal, refusal1, refusal10, refusal11, refusal12, refusal2, refusal3, refusal4, refusal5, refusal6, refusal7, refusal8, refusal9, stray, tooMany, unlisted}
 use Rattle.meaning.proofs.Bytes.{atoms-length}
 use Rattle.book.specs.Framed.{Framed}
-use Rattle.book.specs.Groups.{frameGroup}
+use Rattle.checks.specs.Groups.{frameGroup}
 use Rattle.book.proofs.Counts.{comparisons-length, elements-length, hypotheses-length, predicates-length, rules-length}
-use Rattle.book.proofs.FrameLaws.{framed}
-use Rattle.book.proofs.VerdictLaws.{first-append, first-found}
+use Rattle.checks.proofs.FrameLaws.{framed}
+use Rattle.checks.proofs.VerdictLaws.{first-append, first-found}
 use Rattle.listing.specs.Text.{roomLength}
 use Rattle.listing.proofs.SmallLaws.{AllSmall, Small, Smalls, _and_, first-small, if-small, lowest-small, nil, none-small, table-small}
 

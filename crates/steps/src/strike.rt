@@ -17,7 +17,7 @@ use book::atoms::kind_of;
 use book::atoms::level_of;
 use book::fields::rule_head;
 use book::readers::count_of;
-use book::verdict::short;
+use book::readers::short;
 use judge::literal::answer;
 
 // How many rules are remembered, and how many heads the last pass struck out.

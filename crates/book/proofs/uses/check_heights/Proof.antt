@@ -1,8 +1,0 @@
--- `uses::check_heights` meets its contract: the search through the rules is document 01's. Assumes nothing.
-use borrow.Author.Needs.{needs}
-use Rattle.book.proofs.RuleLaws.{heights-verdict}
-use Rattle.book.proofs.uses.check_heights.Statement.{statement}
-use Rattle.book.proofs.uses.check_heights.Tie as tie
-
-pub check-heights-spec : {M : Type 1} → statement M
-check-heights-spec = tie.close (tie.spec (λ c κs. search needs) (λ c. search (needs, heights-verdict)))

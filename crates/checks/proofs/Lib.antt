@@ -1,0 +1,23 @@
+-- Laws of this crate, in reading order.
+-- verdicts and chains of them
+pub mod VerdictLaws
+-- searches for the lowest record at fault
+pub mod LowestLaws
+-- checks 1 to 3
+pub mod FrameLaws
+-- checks 4 and 5
+pub mod RecordLaws
+-- check 6
+pub mod PairLaws
+-- check 7
+pub mod GivenLaws
+-- check 8
+pub mod MixtureLaws
+-- checks 9 to 11: which uses are positive
+pub mod SignLaws
+-- one use, one comparison, one hypothesis
+pub mod UseLaws
+-- one rule, and all of them
+pub mod RuleLaws
+-- the chain of all twelve
+pub mod CheckLaws

@@ -1,0 +1,10 @@
+-- `check::check_room` meets its contract. Assumes nothing.
+use borrow.Author.Needs.{needs}
+use Rattle.checks.proofs.CheckLaws.{room-passed, room-refused}
+use Rattle.checks.proofs.check.check_room.Statement.{statement}
+use Rattle.checks.proofs.check.check_room.Tie as tie
+
+pub check-room-spec : {M : Type 1} → statement M
+check-room-spec =
+    tie.close
+    (tie.spec (λ c κs. search needs) (λ c. search (needs, room-refused)) (λ c. search (needs, room-passed)))

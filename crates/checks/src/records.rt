@@ -1,0 +1,140 @@
+// Checks 4 and 5: codes that are not listed, and indices that are not in their tables, table by table.
+ghost use mathlib.Core.Path.{_≡_};
+ghost use mathlib.Core.Bool.{cond};
+ghost use lib.Dec.{ltb};
+ghost use Prim.Native.Nat.{_<_};
+ghost use Rattle.meaning.specs.Format.{countOf, tables};
+ghost use Rattle.meaning.specs.Refusal.{refusal4, refusal5};
+ghost use Rattle.book.specs.Framed.{Framed};
+ghost use Rattle.checks.specs.Faults.{faultIn, tableRefusal, tablesRefusal};
+ghost use Rattle.checks.specs.Verdicts.{verdictOf};
+use crate::verdict::Verdict;
+use book::fields::atom_given;
+use book::fields::atom_predicate;
+use book::fields::comparison_aggregate;
+use book::fields::comparison_first;
+use book::fields::comparison_many;
+use book::fields::comparison_relation;
+use book::fields::element_atom;
+use book::fields::element_sign;
+use book::fields::hypothesis_index;
+use book::fields::hypothesis_sort;
+use book::fields::predicate_kind;
+use book::fields::predicate_level;
+use book::fields::rule_first;
+use book::fields::rule_head;
+use book::fields::rule_many;
+use book::readers::count_of;
+use book::readers::narrow;
+use book::readers::short;
+
+// 4, at record i of the k-th body.
+fn unlisted(book: &[u8], k: usize, i: usize) -> bool
+    requires { ⌜ Framed (now book) × (k < 6) × (i < countOf (now book) k) ⌝ }
+    ensures { λ r. ⌜ r ≡ faultIn (now (book .entry)) 4 k i ⌝ }
+{
+    match k {
+        0 => (3 < predicate_kind(book, i)) | (127 < predicate_level(book, i)),
+        1 => 2 < atom_given(book, i),
+        3 => 2 < hypothesis_sort(book, i),
+        4 => (3 < comparison_aggregate(book, i)) | (5 < comparison_relation(book, i)),
+        5 => 1 < element_sign(book, i),
+        _ => false,
+    }
+}
+
+// How many records a hypothesis may point at: sorts 0 and 1 at atoms, sort 2 at comparisons.
+fn among(book: &[u8], sort: usize) -> usize
+    requires { ⌜ Framed (now book) ⌝ }
+    ensures { λ r. ⌜ r ≡ cond (ltb sort 2) (countOf (now (book .entry)) 1) (countOf (now (book .entry)) 4) ⌝ }
+{
+    if sort < 2 {
+        count_of(book, 1)
+    } else {
+        count_of(book, 4)
+    }
+}
+
+// 5, likewise. No sum of two numbers of 16 bits wraps.
+fn stray(book: &[u8], k: usize, i: usize) -> bool
+    requires { ⌜ Framed (now book) × (k < 6) × (i < countOf (now book) k) ⌝ }
+    ensures { λ r. ⌜ r ≡ faultIn (now (book .entry)) 5 k i ⌝ }
+{
+    match k {
+        1 => count_of(book, 0) <= atom_predicate(book, i),
+        2 => {
+            (count_of(book, 1) <= rule_head(book, i))
+                | (count_of(book, 3) < rule_first(book, i) + rule_many(book, i))
+        }
+        3 => among(book, hypothesis_sort(book, i)) <= hypothesis_index(book, i),
+        4 => count_of(book, 5) < comparison_first(book, i) + comparison_many(book, i),
+        5 => count_of(book, 1) <= element_atom(book, i),
+        _ => false,
+    }
+}
+
+fn fault(book: &[u8], check: usize, k: usize, i: usize) -> bool
+    requires { ⌜ Framed (now book) × (k < 6) × (i < countOf (now book) k) ⌝ }
+    ensures { λ r. ⌜ r ≡ faultIn (now (book .entry)) check k i ⌝ }
+{
+    if check == 4 {
+        unlisted(book, k, i)
+    } else {
+        stray(book, k, i)
+    }
+}
+
+// The lowest record of the k-th body that is at fault.
+fn check_table(book: &[u8], check: usize, k: usize) -> Verdict
+    requires { ⌜ Framed (now book) × (k < 6) × (check < 256) ⌝ }
+    ensures { λ r. ⌜ r ≡ verdictOf (tableRefusal (now (book .entry)) check k) ⌝ }
+{
+    let n = count_of(book, k);
+    let mut i = 0;
+    while i < n {
+        if fault(book, check, k, i) {
+            return Verdict::Refused {
+                number: narrow(check),
+                table: narrow(k + 1),
+                record: short(i),
+            };
+        }
+        i += 1;
+    }
+    Verdict::Passed
+}
+
+// The first table with a record at fault.
+fn check_tables(book: &[u8], check: usize) -> Verdict
+    requires { ⌜ Framed (now book) × (check < 256) ⌝ }
+    ensures { λ r. ⌜ r ≡ verdictOf (tablesRefusal (now (book .entry)) check) ⌝ }
+{
+    let mut k = 0;
+    while k < 6 {
+        let v = check_table(book, check, k);
+        match v {
+            Verdict::Passed => {}
+            _ => {
+                return v;
+            }
+        }
+        k += 1;
+    }
+    Verdict::Passed
+}
+
+// 4: a code or level that is not listed.
+pub(crate) fn check_codes(book: &[u8]) -> Verdict
+    requires { ⌜ Framed (now book) ⌝ }
+    ensures { λ r. ⌜ r ≡ verdictOf (refusal4 (tables (now (book .entry)))) ⌝ }
+{
+    check_tables(book, 4)
+}
+
+// 5: an index that is not in its table, or a range that ends past it.
+pub(crate) fn check_indices(book: &[u8]) -> Verdict
+    requires { ⌜ Framed (now book) ⌝ }
+    ensures { λ r. ⌜ r ≡ verdictOf (refusal5 (tables (now (book .entry)))) ⌝ }
+{
+    check_tables(book, 5)
+}
