@@ -45,7 +45,7 @@ compare: library
 	@$(BUILD_SECOND)
 	@target/second/release/compare
 
-# make bench: times and stack of both programs, in one table.
+# make bench: times of the engine, of its rounds written plainly and of the second program, and its stack.
 bench: library
 	@$(BUILD_SECOND)
 	@target/second/release/bench

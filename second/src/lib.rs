@@ -17,6 +17,7 @@ pub mod read;
 pub mod recursion;
 pub mod refuse;
 pub mod rooms;
+pub mod rounds;
 pub mod sample;
 pub mod seeds;
 pub mod show;
@@ -27,15 +28,20 @@ pub mod truth;
 pub mod uses;
 pub mod witness;
 
-/// The form of both programs: a book and a room to the packed number.
+/// The form of every program: a book and a room to the packed number.
 pub type Program = fn(&[u8], &mut [u8]) -> u32;
 
 /// The second program: 0 and the answers in the room, or the packed refusal and the room as it was.
 pub fn answer(book: &[u8], room: &mut [u8]) -> u32 {
+    answer_by(model::answers, book, room)
+}
+
+/// The same, with the model worked out by some other means.
+fn answer_by(answers: fn(&tables::Tables) -> Vec<truth::Truth>, book: &[u8], room: &mut [u8]) -> u32 {
     match refuse::check(book, room.len()) {
         Err(refusal) => refusal.packed(),
         Ok(tables) => {
-            for (atom, answer) in model::answers(&tables).into_iter().enumerate() {
+            for (atom, answer) in answers(&tables).into_iter().enumerate() {
                 room[atom] = answer.code();
             }
             0

@@ -1,7 +1,7 @@
 // Both programs on one book and one room, and every byte of that room and around it compared.
 
 use crate::random::Random;
-use crate::{engine, read, Program};
+use crate::{engine, read, rounds, Program};
 
 /// Bytes before and after the room that no program may touch.
 const GUARD: usize = 16;
@@ -59,6 +59,19 @@ pub fn compare(book: &[u8], room_length: usize, seed: u64) -> Result<Outcome, St
         return Err(format!("room {room_length}: refused, but the room has changed"));
     }
     Ok(ours)
+}
+
+/// Compares the plain rounds with an outcome of the engine's, in a room of the same length.
+pub fn compare_rounds(book: &[u8], ours: &Outcome, seed: u64) -> Result<(), String> {
+    let rounds = run(rounds::answer, book, ours.room().len(), seed);
+    if ours.number != rounds.number {
+        return Err(format!("engine {}, rounds {}", ours.number, rounds.number));
+    }
+    if let Some(at) = (0..ours.memory.len()).find(|&at| ours.memory[at] != rounds.memory[at]) {
+        let (one, other) = (ours.memory[at], rounds.memory[at]);
+        return Err(format!("at byte {} engine {one}, rounds {other}", at as isize - GUARD as isize));
+    }
+    Ok(())
 }
 
 /// The outcomes of one book in rooms of three sorts.

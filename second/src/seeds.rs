@@ -1,4 +1,5 @@
-// One seed: its book in three rooms, its gift where it can have one, and for every fourth seed its damaged copy.
+// One seed: its book in three rooms, its gift where it can have one, and for every fourth seed its damaged copy; every
+// tenth accepted book by the plain rounds too.
 
 use crate::random::Random;
 use crate::tally::Tally;
@@ -11,6 +12,10 @@ pub fn compare(seed: u64, tally: &mut Tally) -> Result<(), String> {
     let tables = (outcomes.exact.number == 0).then(|| read::tables(&book));
     tally.count(&outcomes, tables.as_ref());
     if let Some(tables) = tables {
+        if tally.is_tenth() {
+            rooms::compare_rounds(&book, &outcomes.exact, seed)?;
+            tally.rounds += 1;
+        }
         if let Some(with_gifts) = gifts::with_gifts(&tables, seed) {
             let gift = gifts::compare(&with_gifts, outcomes.exact.room(), seed);
             tally.count_gift(&gift.map_err(|why| format!("gift: {why}"))?);

@@ -1,4 +1,4 @@
-// Prints one book: its tables, and what both programs make of it in rooms of three sorts.
+// Prints one book: its tables, and what each program makes of it in rooms of three sorts.
 
 use crate::rooms::{self, Lengths};
 use crate::tables::Tables;
@@ -12,7 +12,8 @@ pub fn book(book: &[u8], seed: u64) {
     let lengths = Lengths::new(book, seed);
     for room_length in lengths.short.into_iter().chain([lengths.exact, lengths.longer]) {
         println!("  room of {room_length}");
-        let programs: [(&str, Program); 2] = [("engine", crate::engine::answer), ("second", crate::answer)];
+        let programs: [(&str, Program); 3] =
+            [("engine", crate::engine::answer), ("second", crate::answer), ("rounds", crate::rounds::answer)];
         for (name, program) in programs {
             let outcome = rooms::run(program, book, room_length, seed);
             println!("    {name}: {} {:?}", outcome.number, outcome.room());

@@ -10,6 +10,7 @@ pub struct Tally {
     books: u64,
     pub damaged: u64,
     accepted: u64,
+    pub rounds: u64,
     answers: [u64; 3],
     undefined: u64,
     recursive: u64,
@@ -39,6 +40,11 @@ impl Tally {
         }
     }
 
+    /// Is the last accepted book the first of ten? So the book of a single seed is.
+    pub fn is_tenth(&self) -> bool {
+        self.accepted % 10 == 1
+    }
+
     pub fn count_gift(&mut self, gift: &Gift) {
         self.gifts += 1;
         self.kept += gift.kept;
@@ -52,6 +58,7 @@ impl Tally {
 
     pub fn print(&self) {
         println!("{} small books, {} accepted, {} books of damaged bytes", self.books, self.accepted, self.damaged);
+        println!("every tenth accepted book, {}, by the plain rounds too", self.rounds);
         let [undefined, true_, false_] = self.answers;
         println!("answers: {undefined} undefined, {true_} true, {false_} false");
         println!("undefined answers in {} accepted books, by recursion in {}", self.undefined, self.recursive);
