@@ -53,12 +53,13 @@ module _ (b : List ℕ) (n : ℕ) (L : List ℕ) where
   unfoldable pub closedAt : ℕ → Truth
   closedAt a = closing (rulesIn b) (levelsIn b) n a (held L a)
 
-  pub close-written : (now : List ℕ) (a x v : ℕ) → Written closedAt now a → a < 2048 → x ≡ codeOf (held L a) →
-      v ≡ codeOf (closing (rulesIn b) (levelsIn b) n a (truthOf x)) → Written closedAt (set now a v) (a + 1)
+  pub close-written : (now X : List ℕ) (a x v : ℕ) → X ≡ set now a v → Written closedAt now a → a < 2048 →
+      x ≡ codeOf (held L a) → v ≡ codeOf (closing (rulesIn b) (levelsIn b) n a (truthOf x)) →
+      Written closedAt X (a + 1)
   unfolding closedAt
-  close-written now a x v W l ex ev =
+  close-written now X a x v q W l ex ev = rw q (
       written-more closedAt now a v W l
-      (ap truthOf ev ∙ code-back _ ∙ ap (closing (rulesIn b) (levelsIn b) n a) (ap truthOf ex ∙ code-back (held L a)))
+      (ap truthOf ev ∙ code-back _ ∙ ap (closing (rulesIn b) (levelsIn b) n a) (ap truthOf ex ∙ code-back (held L a))))
 
   pub closed-all : (now : List ℕ) (a m : ℕ) → Ready b → length L ≡ countOf b 1 → m ≡ countOf b 1 → a ≤ m → m ≤ a →
       Written closedAt now a → answersIn (take (countOf b 1) now) ≡ close (rulesIn b) (levelsIn b) n (answersIn L)
@@ -81,10 +82,10 @@ module _ (b : List ℕ) where
   unfoldable pub givenAt : ℕ → Truth
   givenAt a = truthOf (atomIn b a .given)
 
-  pub given-written : (now : List ℕ) (a x v : ℕ) → Written givenAt now a → a < 2048 → x ≡ atomIn b a .given → v ≡ x →
-      Written givenAt (set now a v) (a + 1)
+  pub given-written : (now X : List ℕ) (a x v : ℕ) → X ≡ set now a v → Written givenAt now a → a < 2048 →
+      x ≡ atomIn b a .given → v ≡ x → Written givenAt X (a + 1)
   unfolding givenAt
-  given-written now a x v W l ex ev = written-more givenAt now a v W l (ap truthOf (ev ∙ ex))
+  given-written now X a x v q W l ex ev = rw q (written-more givenAt now a v W l (ap truthOf (ev ∙ ex)))
 
   pub given-all : (now : List ℕ) (a m : ℕ) → Ready b → m ≡ countOf b 1 → a ≤ m → m ≤ a → Written givenAt now a →
       answersIn (take (countOf b 1) now) ≡ givenOf (tables b)

@@ -15,6 +15,7 @@ use book::fields::atom_given;
 use book::readers::count_of;
 use book::readers::narrow;
 use judge::literal::answer;
+use judge::literal::set_answer;
 use steps::gather::pending;
 
 // Is some atom of the level undefined? A level without one costs no more than this look.
@@ -60,7 +61,11 @@ pub fn close_level(book: &[u8], answers: &[u8], level: usize) -> [u8; 2048]
     let mut now = [0u8; 2048];
     let mut a = 0;
     while a < n {
-        now[a] = closed_answer(book, level, a, answer(answers, a));
+        set_answer(
+            &mut now,
+            a,
+            closed_answer(book, level, a, answer(answers, a)),
+        );
         a += 1;
     }
     now
@@ -76,7 +81,7 @@ pub fn given_answers(book: &[u8]) -> [u8; 2048]
     let mut now = [0u8; 2048];
     let mut a = 0;
     while a < n {
-        now[a] = narrow(atom_given(book, a));
+        set_answer(&mut now, a, narrow(atom_given(book, a)));
         a += 1;
     }
     now

@@ -1,7 +1,7 @@
 // The truth of an atom and of a literal: 0 undefined, 1 true, 2 false.
 ghost use mathlib.Core.Path.{_≡_};
 ghost use Prim.Native.Nat.{_<_};
-ghost use lib.ListN.{length};
+ghost use lib.ListN.{length, set};
 ghost use Rattle.meaning.specs.Reading.{codeOf, literalOf};
 ghost use Rattle.meaning.specs.Truth.{literalTruth};
 ghost use Rattle.judge.specs.Held.{held};
@@ -16,6 +16,14 @@ pub fn answer(answers: &[u8], a: usize) -> u8
         2 => 2,
         _ => 0,
     }
+}
+
+// And no other function writes it.
+pub fn set_answer(answers: &mut [u8], a: usize, x: u8)
+    requires { ⌜ a < length (now answers) ⌝ }
+    ensures { λ r. ⌜ now (answers .exit) ≡ set (now (answers .entry)) a x ⌝ }
+{
+    answers[a] = x;
 }
 
 // Undefined stays undefined under "not".

@@ -27,25 +27,25 @@ one-fewer [] i l e = absurd (omega (arith, l))
 one-fewer (x ∷ W) zero l e = rw e (omega arith)
 one-fewer (x ∷ W) (suc i) l e = omega (arith, one-fewer W i (omega (arith, l)) e)
 
--- a strike at rule r's head
-module _ (b L W : List ℕ) (m r h : ℕ) (s : Bool) (R : Ready b) (em : m ≡ countOf b 2)
-    (size : length W ≡ countOf b 1) (l : r < m) (e : h ≡ ruleIn b r .head) (p : s ≡ strikesAt b L W r)
-    (t : s ≡ true) where
-  pub head-room : h < length W
-  head-room = omega (arith, R .indexed .head r (omega (arith, em, l)), e, size)
+-- rule r's head is struck out
+module _ (b L W : List ℕ) (m r : ℕ) (s : Bool) (p : s ≡ strikesAt b L W r) (t : s ≡ true) (R : Ready b)
+    (em : m ≡ countOf b 2) (size : length W ≡ countOf b 1) (l : r < m) where
+  head-room : ruleIn b r .head < length W
+  head-room = omega (arith, R .indexed .head r (omega (arith, em, l)), size)
 
-  pub strike-follows : (B : List ℕ) → Follows b L B W → Follows b L B (set W h 0)
-  strike-follows B f = rw e (follows-struck b L B W r (rw (← e) head-room) (omega (arith, em, l)) (sym p ∙ t) f)
-
-  pub strike-lags : (K : List ℕ) → Lags b W K → Lags b (set W h 0) K
-  strike-lags K k = lags-less b W (set W h 0) K (less-known W h head-room) k
-
-  strike-fewer : falses (set W h 0) + 1 ≡ falses W
+  strike-fewer : falses (set W (ruleIn b r .head) 0) + 1 ≡ falses W
   unfolding held
-  strike-fewer = one-fewer W h head-room (rw e (ap isFalse (strike-of b L W r (sym p ∙ t) .0)))
+  strike-fewer = one-fewer W (ruleIn b r .head) head-room (ap isFalse (strike-of b L W r (sym p ∙ t) .0))
 
-  pub strike-lower : (u : ℕ) → falses W ≤ u → falses (set W h 0) ≤ u
-  strike-lower u g = omega (arith, strike-fewer, g)
+  module _ (X : List ℕ) (q : X ≡ set W (ruleIn b r .head) 0) where
+    pub struck-follows : (B : List ℕ) → Follows b L B W → Follows b L B X
+    struck-follows B f = rw q (follows-struck b L B W r head-room (omega (arith, em, l)) (sym p ∙ t) f)
+
+    pub struck-lags : (K : List ℕ) → Lags b W K → Lags b X K
+    struck-lags K k = rw q (lags-less b W (set W (ruleIn b r .head) 0) K (less-known W (ruleIn b r .head) head-room) k)
+
+    pub struck-lower : (u : ℕ) → falses W ≤ u → falses X ≤ u
+    struck-lower u g = rw q (omega (arith, strike-fewer, g))
 
 -- A pass from B over the first k rules: each strike is counted, and if there was none, nothing has changed since B
 -- and none of them strikes there.
@@ -67,22 +67,19 @@ module _ (b L B : List ℕ) where
   }
 
   module _ (W : List ℕ) (d k : ℕ) (s : Bool) (q : Passed b L B W d k) (p : s ≡ strikesAt b L W k) where
-    pub passed-room : (h m : ℕ) → s ≡ true → Ready b → m ≡ countOf b 2 → k < m → h ≡ ruleIn b k .head → h < length W
-    passed-room h m t R em l e = head-room b L W m k h s R em (q .long) l e p t
+    module _ (X : List ℕ) (m : ℕ) (set-to : X ≡ set W (ruleIn b k .head) 0) (t : s ≡ true) (R : Ready b)
+        (em : m ≡ countOf b 2) (l : k < m) where
+      pub passed-struck : Passed b L B X (d + 1) (k + 1)
+      passed-struck = record {
+        long = rw set-to (length-set W (ruleIn b k .head) 0 ∙ q .long);
+        follows = struck-follows b L W m k s p t R em (q .long) l X set-to B (q .follows);
+        fewer = rw set-to (omega (arith, strike-fewer b L W m k s p t R em (q .long) l, q .fewer));
+        same = λ z. absurd (omega (arith, z));
+        none = λ z. absurd (omega (arith, z));
+      }
 
-    pub passed-struck : (h m : ℕ) → s ≡ true → Ready b → m ≡ countOf b 2 → k < m → h ≡ ruleIn b k .head →
-        Passed b L B (set W h 0) (d + 1) (k + 1)
-    passed-struck h m t R em l e = record {
-      long = length-set W h 0 ∙ q .long;
-      follows = strike-follows b L W m k h s R em (q .long) l e p t B (q .follows);
-      fewer = omega (arith, strike-fewer b L W m k h s R em (q .long) l e p t, q .fewer);
-      same = λ z. absurd (omega (arith, z));
-      none = λ z. absurd (omega (arith, z));
-    }
-
-    pub passed-lags : (K : List ℕ) (h m : ℕ) → Lags b W K → s ≡ true → Ready b → m ≡ countOf b 2 → k < m →
-        h ≡ ruleIn b k .head → Lags b (set W h 0) K
-    passed-lags K h m g t R em l e = strike-lags b L W m k h s R em (q .long) l e p t K g
+      pub passed-lags : (K : List ℕ) → Lags b W K → Lags b X K
+      passed-lags K g = struck-lags b L W m k s p t R em (q .long) l X set-to K g
 
     pub passed-more : s ≡ false → Passed b L B W d (k + 1)
     passed-more f = record {
@@ -104,8 +101,8 @@ module _ (b L B : List ℕ) where
   pub passed-long : (W : List ℕ) (d k : ℕ) → Passed b L B W d k → length W ≡ countOf b 1
   passed-long W d k q = q .long
 
-pub still-long : (W : List ℕ) (h v n : ℕ) → length W ≡ n → length (set W h v) ≡ n
-still-long W h v n e = length-set W h v ∙ e
+pub still-long : (W X : List ℕ) (h v n : ℕ) → X ≡ set W h v → length W ≡ n → length X ≡ n
+still-long W X h v n q e = rw q (length-set W h v ∙ e)
 
 pub rule-short : (b : List ℕ) (n r : ℕ) → Ready b → n ≡ countOf b 2 → r < n → r < 2 ^ 16
 rule-short b n r R e l = omega (arith, R .framed .counts 2 (omega arith), e, l)
@@ -119,11 +116,10 @@ pub ruleset trying = (
   lags-start,
   lags-long,
   as-long,
-  head-room,
   still-long,
-  strike-follows,
-  strike-lags,
-  strike-lower,
+  struck-follows,
+  struck-lags,
+  struck-lower,
 )
 
 pub ruleset passing = (
@@ -132,7 +128,6 @@ pub ruleset passing = (
   lags-long,
   rule-short,
   passed-start,
-  passed-room,
   passed-struck,
   passed-lags,
   passed-more,

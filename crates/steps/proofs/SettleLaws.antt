@@ -158,8 +158,9 @@ module _ (b : List ℕ) (n : ℕ) (L best W : List ℕ) (J : Judged b n L best) 
     each : (P : ℕ → Type 0) → P a → ((j : ℕ) → j < a → P j) → (j : ℕ) → j < a + 1 → P j
     each P p h j m = by-cases (decLt j a) (h j) (λ o. let e : a ≡ j = omega (arith, m, o) in subst P e p)
 
-    pub settled-more : (d : Bool) → d ≡ (c || not (eqb v x)) → Settled b n L (set now a v) d (a + 1)
-    settled-more d ed = record {
+    pub settled-more : (d : Bool) (X : List ℕ) → d ≡ (c || not (eqb v x)) → X ≡ set now a v →
+        Settled b n L X d (a + 1)
+    settled-more d X ed eX = rw eX (record {
       long = length-set now a v ∙ S .long;
       answers = each (λ j. truthOf (getD (set now a v) j 0) ≡ next R (levelsIn b) n A U j (held L j))
           (new ∙ ap truthOf is ∙ code-back (next R (levelsIn b) n A U a (held L a)))
@@ -172,7 +173,7 @@ module _ (b : List ℕ) (n : ℕ) (L best W : List ℕ) (J : Judged b n L best) 
           (λ tc. let (j, m, f) = S .differs tc in (j, omega (arith, m), λ z. f (ap truthOf (sym (old j m)) ∙ z)))
           (λ tn. (a, omega arith, λ z. not-of (eqb v x) tn (eq-eqb v x (is ∙ ap codeOf (sym (settle z)) ∙ sym ex))))
           (or-of c (not (eqb v x)) (sym ed ∙ t));
-    }
+    })
       where
         settle : truthOf (getD (set now a v) a 0) ≡ held L a → held L a ≡ next R (levelsIn b) n A U a (held L a)
         settle z = sym z ∙ new ∙ ap truthOf is ∙ code-back (next R (levelsIn b) n A U a (held L a))

@@ -83,15 +83,15 @@ module _ (b : List ℕ) (level : ℕ) (L : List ℕ) (a : ℕ) (size : length L 
   pub assume-room : (W : List ℕ) (m : ℕ) → a < length L → AssumedTo b level L W m → a < length W
   assume-room W m l w = omega (arith, l, size, w .room)
 
-  pub assume-more : (W : List ℕ) (v : ℕ) → a < length L → v ≡ codeOf (wipe (candidateIn b level L) (held L) a) →
-      AssumedTo b level L W a → AssumedTo b level L (set W a v) (a + 1)
-  assume-more W v l p w = record {
+  pub assume-more : (W X : List ℕ) (v : ℕ) → X ≡ set W a v → AssumedTo b level L W a → a < length L →
+      v ≡ codeOf (wipe (candidateIn b level L) (held L) a) → AssumedTo b level L X (a + 1)
+  assume-more W X v q w l p = rw q (record {
     room = length-set W a v ∙ w .room;
     at = λ i m.
         by-cases (decLt i a) (λ o. held-other W a v i (λ q. omega (arith, o, q)) ∙ w .at i o)
         (λ o. let q : i ≡ a = omega (arith, m, o) in
         rw q (held-same W a v _ (omega (arith, l, size, w .room)) p));
-  }
+  })
 
   pub assume-all : (W : List ℕ) → length L ≤ a → AssumedTo b level L W a → Assumed b level L W
   assume-all W l w =
@@ -139,6 +139,9 @@ module _ (b L W : List ℕ) (r h : ℕ) (e : h ≡ ruleIn b r .head) where
             eq-eqb y 0 z,
             u,
           )
+
+pub struck-at : (b W X : List ℕ) (r h : ℕ) → X ≡ set W h 0 → h ≡ ruleIn b r .head → X ≡ set W (ruleIn b r .head) 0
+struck-at b W X r h q e = rw (← e) q
 
 pub ruleset striking = (head-within, strike-not, strike-decided, strike-body)
 

@@ -10,6 +10,7 @@ use book::atoms::kind_of;
 use book::atoms::level_of;
 use book::readers::count_of;
 use judge::literal::answer;
+use judge::literal::set_answer;
 
 // One atom: decided answers stay, and so do those of another level.
 fn next_answer(book: &[u8], level: usize, a: usize, x: u8, best: u8, assumed: u8) -> u8
@@ -60,7 +61,7 @@ pub fn settle(book: &[u8], answers: &[u8], level: usize, best: &[u8], assumed: &
     while a < n {
         let x = answer(answers, a);
         let v = next_answer(book, level, a, x, best[a], answer(assumed, a));
-        now[a] = v;
+        set_answer(&mut now, a, v);
         changed = changed | (v != x);
         a += 1;
     }

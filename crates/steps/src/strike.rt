@@ -4,11 +4,12 @@
 // right: no answer depends on it.
 ghost use mathlib.Core.Path.{_≡_};
 ghost use Prim.Native.Nat.{_+_, _<_, _≤_};
-ghost use lib.ListN.{length};
+ghost use lib.ListN.{length, set};
 ghost use Rattle.laws.specs.Lists.{anyTo};
 ghost use Rattle.theory.specs.Answers.{wipe};
 ghost use Rattle.meaning.specs.Format.{countOf};
 ghost use Rattle.meaning.specs.Reading.{codeOf};
+ghost use Rattle.book.specs.Records.{ruleIn};
 ghost use Rattle.judge.specs.Held.{held};
 ghost use Rattle.steps.specs.Work.{Exact, Ready};
 ghost use Rattle.steps.specs.Strike.{Assumed, Ends, Follows, Lags, candidateIn, falses, onlyAssumed, strikesAt};
@@ -19,6 +20,7 @@ use book::fields::rule_head;
 use book::readers::count_of;
 use book::readers::short;
 use judge::literal::answer;
+use judge::literal::set_answer;
 
 // How many rules are remembered, and how many heads the last pass struck out.
 pub struct Struck {
@@ -54,7 +56,7 @@ fn assume(book: &[u8], answers: &[u8], level: usize, assumed: &mut [u8])
     let n = answers.len();
     let mut a = 0;
     while a < n {
-        assumed[a] = assumed_at(book, answers, level, a);
+        set_answer(assumed, a, assumed_at(book, answers, level, a));
         a += 1;
     }
 }
@@ -75,6 +77,14 @@ fn strikes(book: &[u8], answers: &[u8], assumed: &[u8], known: &mut [u8], r: usi
         return false;
     }
     supports(book, assumed, known, r)
+}
+
+// The head of rule r counts as false no longer.
+fn strike_out(book: &[u8], assumed: &mut [u8], r: usize)
+    requires { ⌜ Ready (now book) × (length (now assumed) ≡ countOf (now book) 1) × (r < countOf (now book) 2) ⌝ }
+    ensures { λ x. ⌜ now (assumed .exit) ≡ set (now (assumed .entry)) (ruleIn (now (book .entry)) r .head) 0 ⌝ }
+{
+    set_answer(assumed, rule_head(book, r), 0);
 }
 
 // How many rules of an order there are to try.
@@ -107,8 +117,7 @@ fn try_order(book: &[u8], answers: &[u8], assumed: &mut [u8], order: &[u16], use
         j += 1;
         if r < rules {
             if strikes(book, answers, assumed, &mut known, r) {
-                let h = rule_head(book, r);
-                assumed[h] = 0;
+                strike_out(book, assumed, r);
             }
         }
     }
@@ -133,8 +142,7 @@ fn pass(book: &[u8], answers: &[u8], assumed: &mut [u8], order: &mut [u16], used
         let r = k;
         k += 1;
         if strikes(book, answers, assumed, &mut known, r) {
-            let h = rule_head(book, r);
-            assumed[h] = 0;
+            strike_out(book, assumed, r);
             struck += 1;
             if end < order.len() {
                 order[end] = short(r);

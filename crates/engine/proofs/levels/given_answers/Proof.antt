@@ -1,6 +1,6 @@
 -- `levels::given_answers` meets its contract: the atoms passed so far have their given answers. Assumes nothing.
-use Prim.Native.Nat.{_-_, _≤_}
 use borrow.Author.Needs.{needs}
+use Prim.Native.Nat.{_-_, _≤_}
 use Rattle.steps.proofs.WorkLaws.{Written}
 use Rattle.engine.proofs.LevelLaws.{givenAt, writing}
 use Rattle.engine.proofs.levels.given_answers.Statement.{statement}
@@ -15,6 +15,7 @@ abbrev μ-loop : tie.MeasureT-loop
 pub given-answers-spec : {M : Type 1} → statement M
 given-answers-spec =
     tie.close
-    (tie.spec Inv-loop μ-loop (λ c κs. search needs) (λ c. search (needs, writing)) (λ c κs. search needs)
-    (λ c κs. search needs) (λ c. search (needs, writing)) (λ c. search needs) (λ c. search needs)
+    (tie.spec Inv-loop μ-loop (λ c κs. search (needs, writing)) (λ c. search (needs, writing))
+    (λ c. search (needs, writing)) (λ c κs. search (needs, writing)) (λ c κs. search (needs, writing))
+    (λ c κs. search (needs, writing)) (λ c. search (needs, writing)) (λ c. search (needs, writing))
     (λ c. search (needs, writing)) (λ c. search (needs, writing)))

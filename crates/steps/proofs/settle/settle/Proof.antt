@@ -1,8 +1,8 @@
 -- `settle::settle` meets its contract: the atoms passed so far have their next answers. Assumes nothing.
-use mathlib.Core.Path.{refl}
-use Prim.Native.Nat.{_-_, _≤_}
-use native.Mathlib.Omega.{arith}
 use borrow.Author.Needs.{needs}
+use native.Mathlib.Omega.{arith}
+use Prim.Native.Nat.{_-_, _≤_}
+use mathlib.Core.Path.{refl}
 use Rattle.steps.specs.Round.{Settled}
 use Rattle.steps.proofs.SettleLaws.{settled-more, settling}
 use Rattle.steps.proofs.settle.settle.Statement.{statement}
@@ -16,9 +16,11 @@ abbrev μ-loop : tie.MeasureT-loop
 μ-loop book answers level best assumed n now₀ changed₀ a₀ now changed a = n - a
 
 -- one atom more
-again : tie.Need-loop-again Inv-loop μ-loop
-again c =
-    let read = c .before in
+loop-again : tie.Need-loop-again Inv-loop μ-loop
+loop-again c =
+    let stored = c .before in
+    let next = stored .before .before in
+    let read = next .before in
     let first = read .before .before in
     let turn = first .before .before in
     let counted = turn .before in
@@ -26,13 +28,14 @@ again c =
     let given = known .before .before .pre in (
       search needs,
       settled-more _ _ _ _ _ (given .2) (given .3) (given .0) _ _ _ _ _ _ _ (turn .loop .inv .1) (omega arith)
-          (first .answer .ensures) refl (read .answer2 .ensures) (c .next-answer .ensures) _ refl,
+          (first .answer .ensures) refl (read .answer2 .ensures) (next .next-answer .ensures) _ _ refl
+          (stored .set-answer .ensures),
     )
 
 pub settle-spec : {M : Type 1} → statement M
 settle-spec =
     tie.close
-    (tie.spec Inv-loop μ-loop (λ c κs. search needs) (λ c. search (needs, settling))
+    (tie.spec Inv-loop μ-loop (λ c κs. search (needs, settling)) (λ c. search (needs, settling))
     (λ c κs. search (needs, settling)) (λ c. search (needs, settling)) (λ c κs. search (needs, settling))
-    (λ c κs. search needs) (λ c. search (needs, settling)) (λ c. search needs) (λ c. search needs)
-    again (λ c. search (needs, settling)))
+    (λ c κs. search (needs, settling)) (λ c. search (needs, settling)) (λ c κs. search (needs, settling))
+    (λ c. search (needs, settling)) (λ c. search (needs, settling)) loop-again (λ c. search (needs, settling)))

@@ -5,7 +5,7 @@ use mathlib.Core.Path.{_≡_}
 use lib.ListN.{length}
 use Rattle.meaning.specs.Format.{countOf}
 use Rattle.steps.specs.Strike.{Follows, Lags, falses}
-use Rattle.steps.proofs.PassLaws.{trying}
+use Rattle.steps.proofs.PassLaws.{still-long, struck-follows, struck-lags, struck-lower, trying}
 use Rattle.steps.proofs.strike.try_order.Statement.{statement}
 use Rattle.steps.proofs.strike.try_order.Tie as tie
 
@@ -24,13 +24,13 @@ try-order-spec =
     (λ c. search (needs, trying)) (λ c. search (needs, trying)) (λ c. search (needs, trying))
     (λ c κs. search (needs, trying)) (λ c. search (needs, trying)) (λ c. search (needs, trying))
     (λ c κs. (search needs, search needs, search (needs, trying), search needs, search (needs, trying)))
-    (λ c κs. search (needs, trying)) (λ c. search (needs, trying)) (λ c. search (needs, trying))
+    (λ c κs. search (needs, trying)) (λ c. search (needs, trying))
     (λ c. (
       search needs,
-      search (needs, trying),
-      search (needs, trying),
-      search (needs, trying),
-      search (needs, trying),
+      search (needs, still-long),
+      search (needs, struck-lags),
+      search (needs, struck-follows),
+      search (needs, struck-lower),
     ))
     (λ c. search (needs, trying)) (λ c. search (needs, trying)) (λ c. search (needs, trying))
     (λ c. search (needs, trying)) (λ c. search (needs, trying)) (λ c. search (needs, trying)))
