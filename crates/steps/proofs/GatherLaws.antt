@@ -1,7 +1,7 @@
 -- Gathering: what one rule more does to what has been gathered. Assumes nothing.
 use mathlib.Core.Path.{_≡_, refl, sym, ap, ap₂, _∙_, subst}
 use mathlib.Core.Logic.{by-cases}
-use mathlib.Core.Bool.{Bool, true, false, _&&_, So}
+use mathlib.Core.Bool.{Bool, true, false, So}
 use mathlib.Core.List.{List}
 use Prim.Native.Nat.{ℕ, zero, suc, _+_, _<_, _≤_}
 use native.Mathlib.Decide.{ℕ-discrete}
@@ -48,10 +48,19 @@ zero-undefined Truth.undefined = refl
 zero-undefined Truth.true = refl
 zero-undefined Truth.false = refl
 
-pub pending-is : (b : List ℕ) (n : ℕ) (L : List ℕ) (a x l : ℕ) → x ≡ codeOf (held L a) → l ≡ levelRead b a →
-    (eqb x 0 && eqb l n) ≡ pendingIn b n L a
-unfolding pendingIn
-pending-is b n L a x l p q = rw (p, q) (ap (λ (t : Bool). t && eqb (levelRead b a) n) (zero-undefined (held L a)))
+module _ (b : List ℕ) (n : ℕ) (L : List ℕ) (a x : ℕ) (p : x ≡ codeOf (held L a)) where
+  undefined-is : isUndefined (held L a) ≡ eqb x 0
+  undefined-is = sym (ap (λ (k : ℕ). eqb k 0) p ∙ zero-undefined (held L a))
+
+  pub pending-decided : (x ≡ 0 → ⊥) → false ≡ pendingIn b n L a
+  unfolding pendingIn
+  pending-decided m = rw (undefined-is, ne-eqb x 0 m)
+
+  pub pending-level : (l : ℕ) → x ≡ 0 → l ≡ levelRead b a → eqb l n ≡ pendingIn b n L a
+  unfolding pendingIn
+  pending-level l e q = rw (undefined-is, eq-eqb x 0 e, q)
+
+pub ruleset pends = (pending-decided, pending-level)
 
 -- the loop over the rules
 module _ (b : List ℕ) (n : ℕ) (L K : List ℕ) (F : Ready b) where

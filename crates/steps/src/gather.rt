@@ -17,7 +17,10 @@ pub fn pending(book: &[u8], answers: &[u8], level: usize, a: usize) -> bool
     requires { ⌜ Ready (now book) × (length (now answers) ≡ countOf (now book) 1) × (a < countOf (now book) 1) ⌝ }
     ensures { λ r. ⌜ r ≡ pendingIn (now (book .entry)) level (now (answers .entry)) a ⌝ }
 {
-    (answer(answers, a) == 0) & (level_of(book, a) == level)
+    if answer(answers, a) != 0 {
+        return false;
+    }
+    level_of(book, a) == level
 }
 
 // One more body: true if one is true, false if both are false.

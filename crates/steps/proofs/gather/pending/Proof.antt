@@ -1,10 +1,11 @@
 -- `gather::pending` meets its contract. Assumes nothing.
 use borrow.Author.Needs.{needs}
-use Rattle.steps.proofs.GatherLaws.{pending-is}
+use Prim.Native.Nat.{_-_}
+use Rattle.steps.proofs.GatherLaws.{pends}
 use Rattle.steps.proofs.gather.pending.Statement.{statement}
 use Rattle.steps.proofs.gather.pending.Tie as tie
 
 pub pending-spec : {M : Type 1} → statement M
-pending-spec =
-    tie.close
-    (tie.spec (λ c κs. search needs) (λ c κs. search needs) (λ c. search (needs, pending-is)))
+pending-spec = tie.close
+    (tie.spec (λ c κs. search (needs, pends)) (λ c. search (needs, pends)) (λ c κs. search (needs, pends))
+    (λ c. search (needs, pends)))
