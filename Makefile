@@ -9,11 +9,10 @@ BUILD_SECOND := cargo build --quiet --release --offline --locked $(SECOND) --tar
 # every crate proved from nothing and every must-fail edit refused. The last line is rt ci's own.
 test:
 	@rt fmt --check
-	@$(MAKE) --no-print-directory --always-make library
+	@$(MAKE) --no-print-directory library
 	@tests/host/run
-	@$(MAKE) --no-print-directory --always-make listing
+	@$(MAKE) --no-print-directory --jobs=2 --output-sync listing compare
 	@tests/listing/run
-	@$(MAKE) --no-print-directory compare
 	@rt ci
 
 # make library: proves the engine and archives it, if a crate has changed.

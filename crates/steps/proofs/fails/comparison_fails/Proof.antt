@@ -8,5 +8,5 @@ use Rattle.steps.proofs.fails.comparison_fails.Tie as tie
 pub comparison-fails-spec : {M : Type 1} → statement M
 comparison-fails-spec =
     tie.close
-    (tie.spec (λ c. search (needs, comparing)) (λ c. search (needs, comparing)) (λ c κs. search (needs, comparing))
-    (λ c. search (needs, comparing)) (λ c. search (needs, comparing)) (λ c. search (needs, comparing)))
+    (tie.spec (λ c. search (needs, comparing)) (λ c. search (needs, comparing)) (λ c κs. search needs)
+    (λ c. search (needs, comparing)) (λ c. search needs) (λ c. search (needs, comparing)))

@@ -8,6 +8,6 @@ use Rattle.steps.proofs.fails.fails.Tie as tie
 pub fails-spec : {M : Type 1} → statement M
 fails-spec =
     tie.close
-    (tie.spec (λ c κs. search (needs, failing)) (λ c κs. search (needs, failing)) (λ c κs. search (needs, failing))
-    (λ c κs. search (needs, failing)) (λ c. search (needs, failing)) (λ c. search (needs, failing))
+    (tie.spec (λ c κs. search needs) (λ c κs. search needs) (λ c κs. search (needs, failing))
+    (λ c κs. search (needs, failing)) (λ c. search (needs, failing)) (λ c. search needs)
     (λ c. search (needs, failing)))

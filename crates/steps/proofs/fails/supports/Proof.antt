@@ -19,8 +19,7 @@ abbrev μ-loop : tie.MeasureT-loop
 pub supports-spec : {M : Type 1} → statement M
 supports-spec =
     tie.close
-    (tie.spec Inv-loop μ-loop (λ c κs. search (needs, supporting)) (λ c κs. search (needs, supporting))
-    (λ c. search (needs, supporting)) (λ c. search (needs, supporting)) (λ c. search (needs, supporting))
-    (λ c κs. search (needs, supporting)) (λ c. search (needs, supporting)) (λ c. search (needs, supporting))
-    (λ c. search (needs, supporting)) (λ c. search (needs, supporting)) (λ c. search (needs, supporting))
+    (tie.spec Inv-loop μ-loop (λ c κs. search needs) (λ c κs. search needs) (λ c. search (needs, supporting))
+    (λ c. search needs) (λ c. search needs) (λ c κs. search (needs, supporting)) (λ c. search needs)
+    (λ c. search (needs, supporting)) (λ c. search needs) (λ c. search (needs, supporting)) (λ c. search needs)
     (λ c. search (needs, supporting)))

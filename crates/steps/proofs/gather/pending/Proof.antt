@@ -7,5 +7,5 @@ use Rattle.steps.proofs.gather.pending.Tie as tie
 
 pub pending-spec : {M : Type 1} → statement M
 pending-spec = tie.close
-    (tie.spec (λ c κs. search (needs, pends)) (λ c. search (needs, pends)) (λ c κs. search (needs, pends))
+    (tie.spec (λ c κs. search needs) (λ c. search (needs, pends)) (λ c κs. search needs)
     (λ c. search (needs, pends)))

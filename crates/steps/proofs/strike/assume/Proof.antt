@@ -25,6 +25,5 @@ loop-again c =
 pub assume-spec : {M : Type 1} → statement M
 assume-spec =
     tie.close
-    (tie.spec Inv-loop μ-loop (λ c. search (needs, assuming)) (λ c κs. search (needs, assuming))
-    (λ c κs. search (needs, assuming)) (λ c. search (needs, assuming)) (λ c. search (needs, assuming)) loop-again
-    (λ c. search (needs, assuming)) (λ c. search (needs, assuming)))
+    (tie.spec Inv-loop μ-loop (λ c. search (needs, assuming)) (λ c κs. search needs) (λ c κs. search needs)
+    (λ c. search needs) (λ c. search needs) loop-again (λ c. search needs) (λ c. search (needs, assuming)))
