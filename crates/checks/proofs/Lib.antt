@@ -7,7 +7,8 @@ pub mod LowestLaws
 pub mod FrameLaws
 -- checks 4 and 5
 pub mod RecordLaws
--- check 6
+-- check 6: what was compared, and the search
+pub mod SeenLaws
 pub mod PairLaws
 -- check 7
 pub mod GivenLaws

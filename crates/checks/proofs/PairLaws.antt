@@ -1,4 +1,5 @@
--- Check 6: the atoms of a comparison's elements by their places, and what the three loops have passed. Assumes nothing.
+-- Check 6: the atoms of a comparison's elements by their places, and what the loops over elements and comparisons have
+-- passed. Assumes nothing.
 use mathlib.Core.Path.{_≡_, refl, sym, ap, _∙_}
 use mathlib.Core.Logic.{⊎-elim}
 use mathlib.Core.Bool.{Bool, true, false, So}
@@ -16,61 +17,46 @@ use Rattle.laws.proofs.Twice.{pair-twice, twice-none}
 use Rattle.meaning.specs.Format.{countOf, noComparison, noElement, tables}
 use Rattle.meaning.specs.Reading.{elementsOf}
 use Rattle.meaning.specs.Refusal.{elementAtom, refusal6, repeats}
-use Rattle.book.specs.Framed.{Indexed}
+use Rattle.book.specs.Framed.{Framed, Indexed}
 use Rattle.book.specs.Records.{comparisonIn, elementIn}
 use Rattle.checks.specs.Verdicts.{verdictOf}
 use Rattle.checks.specs.declared.verdict.Verdict.the-variants.{Refused}
 use Rattle.book.proofs.Counts.{comparisons-length, elements-length}
 use Rattle.checks.proofs.LowestLaws.{Seeks, Through, found, lowest-is, through, turns}
+use Rattle.checks.proofs.SeenLaws.{Apart, same-atom}
 
 -- check 6 at a comparison
 unfoldable pub repeatsAt : List ℕ → ℕ → Bool
 repeatsAt b c = repeats (tables b) c (comparisonIn b c)
-
--- the inner loop at j: no element after i and before j has i's atom
-pub record After (b : List ℕ) (i j : ℕ) : Type 0 where
-  pub later : i < j
-  pub other : (y : ℕ) → i < y → y < j → elementIn b i .atom ≡ elementIn b y .atom → ⊥
 
 -- the loop over elements at i: no two of the elements from f up to e have one atom, where the first stands before i
 pub record Clear (b : List ℕ) (f e i : ℕ) : Type 0 where
   pub least : f ≤ i
   pub most : i ≤ e
   pub within : e ≤ countOf b 5
+  pub room : e ≤ 4096
   pub other : (x y : ℕ) → f ≤ x → x < i → x < y → y < e → elementIn b x .atom ≡ elementIn b y .atom → ⊥
 
 module _ (b : List ℕ) where
-  same-atom : (x y : ℕ) → x ≡ y → elementIn b x .atom ≡ elementIn b y .atom
-  same-atom x y e = rw e
-
-  pub after-none : (i : ℕ) → After b i (i + 1)
-  after-none i = record { later = omega arith; other = λ y m n q. omega (arith, m, n) }
-
-  pub after-more : (i j : ℕ) → After b i j → (elementIn b i .atom ≡ elementIn b j .atom → ⊥) → After b i (j + 1)
-  after-more i j a n =
-      record {
-        later = omega (arith, a .later);
-        other = λ y k m q. ⊎-elim (λ z. n (q ∙ same-atom y j z)) (λ g. a .other y k g q)
-            (eq-or-lt-of-le {n = y} {m = j} (omega (arith, m)));
-      }
-
-  pub clear-none : (f m : ℕ) → f + m ≤ countOf b 5 → Clear b f (f + m) f
-  clear-none f m w =
+  pub clear-none : (f m : ℕ) → f + m ≤ countOf b 5 → Framed b → Clear b f (f + m) f
+  clear-none f m w F =
       record {
         least = omega arith;
         most = omega arith;
         within = w;
+        room = omega (arith, F .counts 5 (omega arith));
         other = λ x y k l o p q. omega (arith, k, l);
       }
 
-  pub clear-more : (f e i j : ℕ) → Clear b f e i → i < e → After b i j → e ≤ j → Clear b f e (i + 1)
+  pub clear-more : (f e i j : ℕ) → Clear b f e i → i < e → Apart b i j → e ≤ j → Clear b f e (i + 1)
   clear-more f e i j c l a g =
       record {
         least = omega arith;
         most = omega arith;
         within = c .within;
+        room = c .room;
         other = λ x y k m o p q.
-            ⊎-elim (λ z. a .other y (omega (arith, z, o)) (omega (arith, p)) (same-atom i x (sym z) ∙ q))
+            ⊎-elim (λ z. a .other y (omega (arith, z, o)) (omega (arith, p)) (same-atom b i x (sym z) ∙ q))
             (λ z. c .other x y k z o p q) (eq-or-lt-of-le {n = x} {m = i} (omega (arith, m)));
       }
 
@@ -116,11 +102,11 @@ module _ (b : List ℕ) (c f m : ℕ) (p : f ≡ comparisonIn b c .first) (q : m
       rw (← p, ← q)
       (atoms-clear b f (f + m) (h .within) (λ x y k l o e. h .other x y k (omega (arith, l, o)) l o e))
 
-  pub comparison-pair : (i j a x : ℕ) → Clear b f (f + m) i → After b i j → j < f + m →
-      a ≡ elementIn b i .atom → x ≡ elementIn b j .atom → x ≡ a → true ≡ repeatsAt b c
+  pub comparison-pair : (i j a x : ℕ) → Clear b f (f + m) i → i < j → j < f + m → a ≡ elementIn b i .atom →
+      x ≡ elementIn b j .atom → x ≡ a → true ≡ repeatsAt b c
   unfolding repeatsAt elementsOf
   comparison-pair i j a x h k g s t u =
-      rw (← p, ← q) (sym (atoms-pair b f (f + m) (h .within) i j (h .least) (k .later) g (sym s ∙ sym u ∙ t)))
+      rw (← p, ← q) (sym (atoms-pair b f (f + m) (h .within) i j (h .least) k g (sym s ∙ sym u ∙ t)))
 
 -- the search through the comparisons
 pairs-seek : (b : List ℕ) → Seeks (refusal6 (tables b)) 6 5 (repeatsAt b) (countOf b 4)

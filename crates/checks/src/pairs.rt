@@ -1,5 +1,8 @@
-// Check 6: one atom twice in one comparison.
+// Check 6: one atom twice in one comparison. Ranges of comparisons may overlap; how far each element was compared with
+// those after it is remembered, so that no two elements are compared twice.
 ghost use mathlib.Core.Path.{_≡_};
+ghost use mathlib.Core.Bool.{cond};
+ghost use lib.Dec.{ltb};
 ghost use Rattle.meaning.specs.Format.{tables};
 ghost use Rattle.meaning.specs.Refusal.{refusal6};
 ghost use Rattle.book.specs.Framed.{Framed, Indexed};
@@ -11,12 +14,27 @@ use book::fields::element_atom;
 use book::readers::count_of;
 use book::readers::short;
 
+fn wide(x: u16) -> usize
+    ensures { λ r. ⌜ r ≡ x ⌝ }
+{
+    x as usize
+}
+
+// The first later element that wasn't compared: the next one, or where an earlier comparison ended.
+fn later(next: usize, seen: u16) -> usize
+    ensures { λ r. ⌜ r ≡ cond (ltb next seen) seen next ⌝ }
+{
+    let end = wide(seen);
+    if next < end { end } else { next }
+}
+
 // 6: comparisons, elements and later elements, left at the first pair. The comparison reached is then the place.
 pub(crate) fn check_pairs(book: &[u8]) -> Verdict
     requires { ⌜ Framed (now book) × Indexed (now book) ⌝ }
     ensures { λ r. ⌜ r ≡ verdictOf (refusal6 (tables (now (book .entry)))) ⌝ }
 {
     let n = count_of(book, 4);
+    let mut seen = [0u16; 4096];
     let mut c = 0;
     'comparisons: while c < n {
         let first = comparison_first(book, c);
@@ -24,13 +42,14 @@ pub(crate) fn check_pairs(book: &[u8]) -> Verdict
         let mut i = first;
         while i < end {
             let atom = element_atom(book, i);
-            let mut j = i + 1;
+            let mut j = later(i + 1, seen[i]);
             while j < end {
                 if element_atom(book, j) == atom {
                     break 'comparisons;
                 }
                 j += 1;
             }
+            seen[i] = short(j);
             i += 1;
         }
         c += 1;

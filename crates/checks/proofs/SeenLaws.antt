@@ -1,0 +1,80 @@
+-- Check 6: how far each element was compared with those after it, and where the comparing goes on. Assumes nothing.
+use mathlib.Core.Path.{_≡_, sym, _∙_}
+use mathlib.Core.Logic.{⊎-elim}
+use mathlib.Core.Bool.{cond}
+use mathlib.Core.List.{List}
+use Prim.Native.Nat.{ℕ, _+_, _<_, _≤_}
+use native.Mathlib.Nat.{eq-or-lt-of-le}
+use native.Mathlib.Omega.{arith}
+use lib.Dec.{eqb, ltb}
+use lib.ListN.{length, getD, getD-replicate, length-replicate, length-set, replicate, set}
+use lib.Seq.{getD-set-other, getD-set-same}
+use borrow.Author.Tests.{eqb-false, eqb-true, le-ltb, lt-ltb, ltb-true}
+use Rattle.laws.proofs.Tests.{by-test}
+use Rattle.book.specs.Records.{elementIn}
+
+pub same-atom : (b : List ℕ) (x y : ℕ) → x ≡ y → elementIn b x .atom ≡ elementIn b y .atom
+same-atom b x y e = rw e
+
+-- no element after i and before j has i's atom
+pub record Apart (b : List ℕ) (i j : ℕ) : Type 0 where
+  pub most : j ≤ 4096
+  pub other : (y : ℕ) → i < y → y < j → elementIn b i .atom ≡ elementIn b y .atom → ⊥
+
+-- what is remembered: for each element, up to where the later ones have other atoms
+pub record Seen (b seen : List ℕ) : Type 0 where
+  pub room : length seen ≡ 4096
+  pub at : (i : ℕ) → i < 4096 → Apart b i (getD seen i 0)
+
+-- `pairs::later` by its two ways
+module _ (next x end : ℕ) (e : end ≡ x) where
+  pub later-end : next < end → end ≡ cond (ltb next x) x next
+  later-end l = rw (← e, lt-ltb next end l)
+
+  pub later-next : end ≤ next → next ≡ cond (ltb next x) x next
+  later-next l = rw (← e, le-ltb next end l)
+
+module _ (b : List ℕ) where
+  -- at the start nothing was compared
+  apart-soon : (i j : ℕ) → j ≤ i + 1 → i < 4096 → Apart b i j
+  apart-soon i j l m = record { most = omega arith; other = λ y k n q. omega (arith, k, n) }
+
+  pub seen-none : Seen b (replicate 4096 0)
+  seen-none = record {
+    room = length-replicate {A = ℕ} 4096 0;
+    at = λ i l. rw (getD-replicate {A = ℕ} 4096 i 0 0 l) (apart-soon i 0 (omega arith) l);
+  }
+
+  -- the innermost loop: it starts after what was seen, and one more later element has another atom
+  module _ (seen : List ℕ) (i j : ℕ) (s : Seen b seen) (l : i < 4096)
+      (e : j ≡ cond (ltb (i + 1) (getD seen i 0)) (getD seen i 0) (i + 1)) where
+    pub apart-seen : Apart b i j
+    apart-seen =
+        by-test (ltb (i + 1) (getD seen i 0)) (λ t. rw (e, t) (s .at i l))
+        (λ f. rw (e, f) (apart-soon i (i + 1) (omega arith) l))
+
+    pub later-seen : i < j
+    later-seen =
+        by-test (ltb (i + 1) (getD seen i 0))
+        (λ t. rw (e, t) (omega (arith, ltb-true (i + 1) (getD seen i 0) t)))
+        (λ f. rw (e, f) (omega arith))
+
+  pub apart-more : (i j : ℕ) → Apart b i j → j < 4096 → (elementIn b i .atom ≡ elementIn b j .atom → ⊥) →
+      Apart b i (j + 1)
+  apart-more i j a l n =
+      record {
+        most = omega arith;
+        other = λ y k m q. ⊎-elim (λ z. n (q ∙ same-atom b y j z)) (λ g. a .other y k g q)
+            (eq-or-lt-of-le {n = y} {m = j} (omega (arith, m)));
+      }
+
+  -- where it ended is remembered
+  pub seen-more : (seen : List ℕ) (i j r : ℕ) → Seen b seen → Apart b i j → i < 4096 → r ≡ j → Seen b (set seen i r)
+  seen-more seen i j r s a l e =
+      record {
+        room = length-set seen i r ∙ s .room;
+        at = λ x m.
+            by-test (eqb i x)
+            (λ t. rw (← eqb-true i x t, getD-set-same seen i r 0 (omega (arith, s .room)), e) a)
+            (λ f. rw (getD-set-other seen i x r 0 (λ q. eqb-false i x f (sym q))) (s .at x m));
+      }
