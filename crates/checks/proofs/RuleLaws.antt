@@ -8,18 +8,19 @@ use native.Mathlib.Omega.{arith}
 use lib.ListN.{length, length-map}
 use lib.Seq.{slice}
 use Rattle.laws.specs.Lists.{any}
-use Rattle.laws.proofs.Entries.{map-at}
+use Rattle.laws.proofs.Entries.{map-at, none-any}
 use Rattle.laws.proofs.Ranges.{NoneBetween, any-and, any-gather, any-map, between-next, between-start, slice-none, slice-some}
 use Rattle.meaning.specs.Format.{HypothesisRecord, countOf, noHypothesis, noRule, tables}
 use Rattle.meaning.specs.Reading.{Rule, hypothesisIn, isCertain, levelsOf, reading, ruleOf}
 use Rattle.meaning.specs.Refusal.{lowest, ownNonPositive, refusal10, refusal11, refusal9, uses, usesHigher, usesNonPositively, usesOf, usesUncertain}
 use Rattle.book.specs.Framed.{Indexed}
 use Rattle.book.specs.Records.{kindRead, ruleIn, ruleRead}
-use Rattle.checks.specs.Uses.{hypothesisFault, ruleFault, ruleRefusal, useFault}
+use Rattle.checks.specs.Uses.{hypothesisFault, idleIn, ruleFault, ruleRefusal, useFault}
 use Rattle.checks.specs.Verdicts.{verdictOf}
 use Rattle.checks.specs.declared.verdict.Verdict.{Verdict}
 use Rattle.book.proofs.Counts.{hypotheses-length, rules-length}
 use Rattle.checks.proofs.LowestLaws.{Found, Seeks, Through, found, lowest-is, through, turns}
+use Rattle.checks.proofs.UseLaws.{idle-use}
 
 -- a rule's hypotheses
 module _ (b : List ℕ) (check r : ℕ) where
@@ -57,6 +58,14 @@ module _ (b : List ℕ) (check r : ℕ) where
         sym (whole ∙ slice-none noHypothesis (tables b .hypotheses) first (first + many) faultOf in-table
         (λ i o s. rw (← e) (n i o (omega (arith, s, m)))))
 
+-- a rule of which the check asks nothing
+pub rule-idle : (b : List ℕ) (check r head : ℕ) (v : Bool) → head ≡ ruleIn b r .head → v ≡ idleIn b check head →
+    v ≡ true → false ≡ ruleFault b check r
+unfolding ruleFault
+rule-idle b check r head v e p t =
+    sym (none-any (useFault b check (ruleIn b r .head)) (uses (ruleRead b r))
+    (λ u i. idle-use b check (ruleIn b r .head) u (rw (← e) (sym p ∙ t))))
+
 pub hypotheses-in : (b : List ℕ) (r first many : ℕ) → Indexed b → r < countOf b 2 → first ≡ ruleIn b r .first →
     many ≡ ruleIn b r .many → first + many ≤ countOf b 3
 hypotheses-in b r first many I l p q = omega (arith, I .rule r l, p, q)
@@ -64,7 +73,7 @@ hypotheses-in b r first many I l p q = omega (arith, I .rule r l, p, q)
 pub head-there : (b : List ℕ) (r head : ℕ) → Indexed b → r < countOf b 2 → head ≡ ruleIn b r .head → head < countOf b 1
 head-there b r head I l e = rw e (I .head r l)
 
-pub ruleset hypotheses = (between-start, between-next, rule-found, rule-none, hypotheses-in, head-there)
+pub ruleset hypotheses = (between-start, between-next, rule-idle, rule-found, rule-none, hypotheses-in, head-there)
 
 -- the search through the rules
 rules-seek : (b : List ℕ) (check : ℕ) → Seeks (ruleRefusal b check) check 3 (ruleFault b check) (countOf b 2)

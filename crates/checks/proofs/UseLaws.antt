@@ -1,7 +1,7 @@
 -- Checks 9 to 11: the tests of one use, and the searches through a comparison's elements and by a hypothesis's sort.
 -- Assumes nothing.
 use mathlib.Core.Path.{_≡_, refl, sym, _∙_}
-use mathlib.Core.Bool.{Bool, true, false, not, _&&_}
+use mathlib.Core.Bool.{Bool, true, false, not, _&&_, So}
 use mathlib.Core.List.{List}
 use Prim.Native.Nat.{ℕ, zero, suc, _+_, _<_, _≤_}
 use native.Mathlib.Omega.{arith}
@@ -12,13 +12,13 @@ use lib.Seq.{slice}
 use borrow.Author.Tests.{le-ltb, lt-ltb, ne-eqb}
 use Rattle.laws.specs.Lists.{any}
 use Rattle.laws.proofs.Ranges.{NoneBetween, any-map, between-next, between-start, slice-none, slice-some}
-use Rattle.laws.proofs.Tests.{or-none}
+use Rattle.laws.proofs.Tests.{by-test, fails-of, left, not-of, or-none, right}
 use Rattle.meaning.specs.Format.{ElementRecord, countOf, noElement, tables}
 use Rattle.meaning.specs.Reading.{comparisonOf, elementOf, elementsOf, hypothesisOf, isCertain, literalOf}
 use Rattle.meaning.specs.Refusal.{Use, elementUse, positiveIn, usesOf}
 use Rattle.book.specs.Framed.{Indexed}
 use Rattle.book.specs.Records.{comparisonIn, comparisonRead, elementIn, hypothesisIn, kindRead, levelRead}
-use Rattle.checks.specs.Uses.{comparisonFault, hypothesisFault, signPositive, useFault}
+use Rattle.checks.specs.Uses.{comparisonFault, hypothesisFault, idleIn, signPositive, useFault}
 use Rattle.book.proofs.Counts.{elements-length}
 
 -- one use, by its check
@@ -39,6 +39,19 @@ module _ (b : List ℕ) (check head atom : ℕ) (positive : Bool) where
       d ≡ isCertain (kindRead b atom) → (c && not d) ≡ useFault b check head used
   unfolding useFault
   use-11 c d m n p q = rw (ne-eqb check 9 m, ne-eqb check 10 n, p, q)
+
+-- no use is at fault where the check asks nothing
+module _ (b : List ℕ) (check head : ℕ) where
+  pub idle-is : (v : Bool) → v ≡ isCertain (kindRead b head) → (not (eqb check 9) && not v) ≡ idleIn b check head
+  idle-is v p = rw p
+
+  pub idle-use : (u : Use) → So (idleIn b check head) → useFault b check head u ≡ false
+  unfolding useFault
+  idle-use u t =
+      let p : eqb check 9 ≡ false = fails-of (eqb check 9) (not-of (eqb check 9) (left _ _ t)) in
+      let q : isCertain (kindRead b head) ≡ false =
+      fails-of (isCertain (kindRead b head)) (not-of (isCertain (kindRead b head)) (right (not (eqb check 9)) _ t)) in
+      rw (p, q) (by-test (eqb check 10) (λ t. rw t) (λ f. rw f))
 
 pub ruleset useTests = (use-9, use-10, use-11)
 

@@ -28,6 +28,10 @@ unfoldable pub useFault : List ℕ → ℕ → ℕ → Use → Bool
 useFault b check head u =
     cond (eqb check 9) (higher b head u) (cond (eqb check 10) (nonPositive b head u) (uncertain b head u))
 
+-- the check asks nothing of rules with this head: 10 and 11 concern certain heads alone
+abbrev pub idleIn : List ℕ → ℕ → ℕ → Bool
+idleIn b check head = not (eqb check 9) && not (isCertain (kindRead b head))
+
 -- an element of this sign in a comparison of these codes is used positively
 abbrev pub signPositive : ℕ → ℕ → ℕ → Bool
 signPositive aggregate relation sign =

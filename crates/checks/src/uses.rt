@@ -5,7 +5,7 @@ ghost use Rattle.meaning.specs.Format.{countOf, tables};
 ghost use Rattle.meaning.specs.Reading.{aggregateOf, levelsOf, reading, relationOf};
 ghost use Rattle.meaning.specs.Refusal.{grows, refusal10, refusal11, refusal9, shrinks};
 ghost use Rattle.book.specs.Framed.{Framed, Indexed};
-ghost use Rattle.checks.specs.Uses.{comparisonFault, hypothesisFault, ruleFault, ruleRefusal, signPositive, useFault};
+ghost use Rattle.checks.specs.Uses.{comparisonFault, hypothesisFault, idleIn, ruleFault, ruleRefusal, signPositive, useFault};
 ghost use Rattle.checks.specs.Verdicts.{verdictOf};
 use crate::verdict::Verdict;
 use book::atoms::is_certain;
@@ -105,12 +105,23 @@ fn hypothesis_fault(book: &[u8], check: usize, head: usize, h: usize) -> bool
     }
 }
 
+// Does the check ask nothing of rules with this head? Checks 10 and 11 concern certain heads alone.
+fn idle(book: &[u8], check: usize, head: usize) -> bool
+    requires { ⌜ Framed (now book) × Indexed (now book) × (head < countOf (now book) 1) ⌝ }
+    ensures { λ r. ⌜ r ≡ idleIn (now (book .entry)) check head ⌝ }
+{
+    (check != 9) & !is_certain(book, head)
+}
+
 // Is something that rule r uses?
 fn rule_fault(book: &[u8], check: usize, r: usize) -> bool
     requires { ⌜ Framed (now book) × Indexed (now book) × (r < countOf (now book) 2) ⌝ }
     ensures { λ v. ⌜ v ≡ ruleFault (now (book .entry)) check r ⌝ }
 {
     let head = rule_head(book, r);
+    if idle(book, check, head) {
+        return false;
+    }
     let first = rule_first(book, r);
     let end = first + rule_many(book, r);
     let mut h = first;

@@ -19,6 +19,7 @@ abbrev μ-loop : tie.MeasureT-loop
 pub rule-fault-spec : {M : Type 1} → statement M
 rule-fault-spec =
     tie.close
-    (tie.spec Inv-loop μ-loop (λ c κs. search needs) (λ c κs. search needs) (λ c κs. search needs)
-    (λ c. search needs) (λ c. search (needs, hypotheses)) (λ c κs. search needs) (λ c. search (needs, hypotheses))
-    (λ c. search needs) (λ c. search needs) (λ c. search (needs, hypotheses)) (λ c. search (needs, hypotheses)))
+    (tie.spec Inv-loop μ-loop (λ c κs. search needs) (λ c κs. search (needs, hypotheses))
+    (λ c. search (needs, hypotheses)) (λ c κs. search needs) (λ c κs. search needs) (λ c. search needs)
+    (λ c. search (needs, hypotheses)) (λ c κs. search needs) (λ c. search (needs, hypotheses)) (λ c. search needs)
+    (λ c. search needs) (λ c. search (needs, hypotheses)) (λ c. search (needs, hypotheses)))
