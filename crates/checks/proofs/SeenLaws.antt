@@ -1,15 +1,15 @@
 -- Check 6: how far each element was compared with those after it, and where the comparing goes on. Assumes nothing.
 use mathlib.Core.Path.{_≡_, sym, _∙_}
-use mathlib.Core.Logic.{⊎-elim}
-use mathlib.Core.Bool.{cond}
+use mathlib.Core.Logic.{by-cases, ⊎-elim}
 use mathlib.Core.List.{List}
-use Prim.Native.Nat.{ℕ, _+_, _<_, _≤_}
+use Prim.Native.Nat.{ℕ, _+_, _<_, _≤_, max}
+use native.Mathlib.Decide.{decLt}
 use native.Mathlib.Nat.{eq-or-lt-of-le}
 use native.Mathlib.Omega.{arith}
-use lib.Dec.{eqb, ltb}
+use lib.Dec.{eqb}
 use lib.ListN.{length, getD, getD-replicate, length-replicate, length-set, replicate, set}
 use lib.Seq.{getD-set-other, getD-set-same}
-use borrow.Author.Tests.{eqb-false, eqb-true, le-ltb, lt-ltb, ltb-true}
+use borrow.Author.Tests.{eqb-false, eqb-true}
 use Rattle.laws.proofs.Tests.{by-test}
 use Rattle.book.specs.Records.{elementIn}
 
@@ -26,14 +26,6 @@ pub record Seen (b seen : List ℕ) : Type 0 where
   pub room : length seen ≡ 4096
   pub at : (i : ℕ) → i < 4096 → Apart b i (getD seen i 0)
 
--- `pairs::later` by its two ways
-module _ (next x end : ℕ) (e : end ≡ x) where
-  pub later-end : next < end → end ≡ cond (ltb next x) x next
-  later-end l = rw (← e, lt-ltb next end l)
-
-  pub later-next : end ≤ next → next ≡ cond (ltb next x) x next
-  later-next l = rw (← e, le-ltb next end l)
-
 module _ (b : List ℕ) where
   -- at the start nothing was compared
   apart-soon : (i j : ℕ) → j ≤ i + 1 → i < 4096 → Apart b i j
@@ -46,18 +38,11 @@ module _ (b : List ℕ) where
   }
 
   -- the innermost loop: it starts after what was seen, and one more later element has another atom
-  module _ (seen : List ℕ) (i j : ℕ) (s : Seen b seen) (l : i < 4096)
-      (e : j ≡ cond (ltb (i + 1) (getD seen i 0)) (getD seen i 0) (i + 1)) where
-    pub apart-seen : Apart b i j
-    apart-seen =
-        by-test (ltb (i + 1) (getD seen i 0)) (λ t. rw (e, t) (s .at i l))
-        (λ f. rw (e, f) (apart-soon i (i + 1) (omega arith) l))
-
-    pub later-seen : i < j
-    later-seen =
-        by-test (ltb (i + 1) (getD seen i 0))
-        (λ t. rw (e, t) (omega (arith, ltb-true (i + 1) (getD seen i 0) t)))
-        (λ f. rw (e, f) (omega arith))
+  pub apart-seen : (seen : List ℕ) (i j x : ℕ) → Seen b seen → i < 4096 → x ≡ getD seen i 0 → j ≡ max (i + 1) x →
+      Apart b i j
+  apart-seen seen i j x s l e m =
+      by-cases (decLt (i + 1) x) (λ n. let q : j ≡ x = omega arith in rw (q, e) (s .at i l))
+      (λ n. apart-soon i j (omega arith) l)
 
   pub apart-more : (i j : ℕ) → Apart b i j → j < 4096 → (elementIn b i .atom ≡ elementIn b j .atom → ⊥) →
       Apart b i (j + 1)

@@ -1,6 +1,8 @@
 // The checks 1 to 12 of a rule book.
 // what a check answers
 pub mod verdict;
+// widening, and the larger of two numbers
+mod numbers;
 // checks 1 to 3: length, counts and offsets
 mod frame;
 // checks 4 and 5: codes and indices

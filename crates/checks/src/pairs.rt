@@ -1,32 +1,18 @@
 // Check 6: one atom twice in one comparison. Ranges of comparisons may overlap; how far each element was compared with
 // those after it is remembered, so that no two elements are compared twice.
 ghost use mathlib.Core.Path.{_≡_};
-ghost use mathlib.Core.Bool.{cond};
-ghost use lib.Dec.{ltb};
 ghost use Rattle.meaning.specs.Format.{tables};
 ghost use Rattle.meaning.specs.Refusal.{refusal6};
 ghost use Rattle.book.specs.Framed.{Framed, Indexed};
 ghost use Rattle.checks.specs.Verdicts.{verdictOf};
+use crate::numbers::larger;
+use crate::numbers::wide;
 use crate::verdict::Verdict;
 use book::fields::comparison_first;
 use book::fields::comparison_many;
 use book::fields::element_atom;
 use book::readers::count_of;
 use book::readers::short;
-
-fn wide(x: u16) -> usize
-    ensures { λ r. ⌜ r ≡ x ⌝ }
-{
-    x as usize
-}
-
-// The first later element that wasn't compared: the next one, or where an earlier comparison ended.
-fn later(next: usize, seen: u16) -> usize
-    ensures { λ r. ⌜ r ≡ cond (ltb next seen) seen next ⌝ }
-{
-    let end = wide(seen);
-    if next < end { end } else { next }
-}
 
 // 6: comparisons, elements and later elements, left at the first pair. The comparison reached is then the place.
 pub(crate) fn check_pairs(book: &[u8]) -> Verdict
@@ -42,7 +28,7 @@ pub(crate) fn check_pairs(book: &[u8]) -> Verdict
         let mut i = first;
         while i < end {
             let atom = element_atom(book, i);
-            let mut j = later(i + 1, seen[i]);
+            let mut j = larger(i + 1, wide(seen[i]));
             while j < end {
                 if element_atom(book, j) == atom {
                     break 'comparisons;

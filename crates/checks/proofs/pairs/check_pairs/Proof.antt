@@ -6,7 +6,7 @@ use Prim.Native.Nat.{_-_, _<_, _≤_}
 use native.Mathlib.Omega.{arith}
 use borrow.Author.Needs.{needs}
 use Rattle.laws.proofs.Searches.{NoneTo}
-use Rattle.checks.proofs.SeenLaws.{Apart, Seen, apart-more, apart-seen, later-seen, seen-more, seen-none}
+use Rattle.checks.proofs.SeenLaws.{Apart, Seen, apart-more, apart-seen, seen-more, seen-none}
 use Rattle.checks.proofs.PairLaws.{Clear, clear-more, comparisons, elements, repeatsAt}
 use Rattle.checks.proofs.pairs.check_pairs.Statement.{statement}
 use Rattle.checks.proofs.pairs.check_pairs.Tie as tie
@@ -32,9 +32,10 @@ abbrev μ-comparisons : tie.MeasureT-comparisons
 -- the later elements from where the comparing goes on
 goes-on : tie.Need-loop2-holds Inv-loop2 μ-loop2 Inv-loop μ-loop Inv-comparisons μ-comparisons
 goes-on c =
-    let seen = c .before .before .before .loop .inv .1 in (
-      later-seen _ _ _ _ seen (search needs) (c .later .ensures),
-      apart-seen _ _ _ _ seen (search needs) (c .later .ensures),
+    let read = c .before in
+    let seen = read .before .before .before .loop .inv .1 in (
+      search needs,
+      apart-seen _ _ _ _ _ seen (search needs) (read .wide .ensures) (c .larger .ensures),
     )
 
 -- one element more that was compared with the later ones
@@ -42,7 +43,7 @@ compared : tie.Need-loop-again Inv-loop2 μ-loop2 Inv-loop μ-loop Inv-compariso
 compared c =
     let inner = c .before .before in
     let apart = inner .loop2 .inv .1 in
-    let next = inner .before .before in
+    let next = inner .before .before .before in
     let turn = next .before .before .loop in (
       clear-more _ _ _ _ _ (search needs) (search needs) apart (search needs),
       seen-more _ _ _ _ _ (turn .inv .1) apart (search needs) (c .short .ensures),
@@ -54,7 +55,7 @@ check-pairs-spec =
     (tie.spec Inv-loop2 μ-loop2 Inv-loop μ-loop Inv-comparisons μ-comparisons (λ c κs. search needs)
     (λ c. search (needs, comparisons, seen-none)) (λ c κs. search needs) (λ c κs. search needs) (λ c. search needs)
     (λ c. search (needs, elements)) (λ c κs. search needs) (λ c. search needs) (λ c. search needs)
-    (λ c. search needs) (λ c κs. search needs) goes-on (λ c κs. search needs) (λ c. search needs)
+    (λ c. search needs) (λ c κs. search needs) (λ c κs. search needs) goes-on (λ c κs. search needs) (λ c. search needs)
     (λ c. search needs)
     (λ c. (search needs, apart-more _ _ _ (search needs) (search needs) (λ e. c .if1 .left (cc))))
     (λ c κs. search needs) (λ c. search needs) (λ c. search needs) (λ c. search needs) (λ c. search needs) compared
