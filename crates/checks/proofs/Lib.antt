@@ -3,6 +3,8 @@
 pub mod VerdictLaws
 -- searches for the lowest record at fault
 pub mod LowestLaws
+-- an array after a store
+pub mod StoreLaws
 -- checks 1 to 3
 pub mod FrameLaws
 -- checks 4 and 5
@@ -16,9 +18,14 @@ pub mod GivenLaws
 pub mod MixtureLaws
 -- checks 9 to 11: which uses are positive
 pub mod SignLaws
--- one use, one comparison, one hypothesis
+-- one use, one hypothesis
 pub mod UseLaws
+-- the elements of a comparison, and its mark
+pub mod ElementLaws
+pub mod ShareLaws
 -- one rule, and all of them
 pub mod RuleLaws
+-- a comparison by its mark, and what check 9 gives check 10
+pub mod LowerLaws
 -- the chain of all twelve
 pub mod CheckLaws

@@ -66,6 +66,10 @@ rule-idle b check r head v e p t =
     sym (none-any (useFault b check (ruleIn b r .head)) (uses (ruleRead b r))
     (λ u i. idle-use b check (ruleIn b r .head) u (rw (← e) (sym p ∙ t))))
 
+pub rule-asked : (b : List ℕ) (check head : ℕ) (v : Bool) → v ≡ idleIn b check head → v ≡ false →
+    idleIn b check head ≡ false
+rule-asked b check head v p f = sym p ∙ f
+
 pub hypotheses-in : (b : List ℕ) (r first many : ℕ) → Indexed b → r < countOf b 2 → first ≡ ruleIn b r .first →
     many ≡ ruleIn b r .many → first + many ≤ countOf b 3
 hypotheses-in b r first many I l p q = omega (arith, I .rule r l, p, q)
@@ -73,7 +77,8 @@ hypotheses-in b r first many I l p q = omega (arith, I .rule r l, p, q)
 pub head-there : (b : List ℕ) (r head : ℕ) → Indexed b → r < countOf b 2 → head ≡ ruleIn b r .head → head < countOf b 1
 head-there b r head I l e = rw e (I .head r l)
 
-pub ruleset hypotheses = (between-start, between-next, rule-idle, rule-found, rule-none, hypotheses-in, head-there)
+pub ruleset hypotheses =
+    (between-start, between-next, rule-idle, rule-asked, rule-found, rule-none, hypotheses-in, head-there)
 
 -- the search through the rules
 rules-seek : (b : List ℕ) (check : ℕ) → Seeks (ruleRefusal b check) check 3 (ruleFault b check) (countOf b 2)
@@ -89,6 +94,9 @@ rules-through b check = through (rules-seek b check)
 pub ruleset ruled = (turns, rules-found, rules-through)
 
 -- the three checks are document 01's
+pub noRead : Rule
+noRead = record { head = 0; body = [] }
+
 module _ (b : List ℕ) (check : ℕ) (fault : ℕ → Rule → Bool) where
   rules-are : ((r : ℕ) → fault r (ruleRead b r) ≡ ruleFault b check r) →
       ruleRefusal b check ≡ lowest check 3 fault (reading (tables b) .rules)
@@ -99,18 +107,16 @@ module _ (b : List ℕ) (check : ℕ) (fault : ℕ → Rule → Bool) where
       (λ r l.
       let m : r < length (tables b .rules) = omega (arith, l, rules-length b) in
       ap (fault r) (map-at (ruleOf (tables b)) noRule noRead (tables b .rules) r m) ∙ same r) .is)
-    where
-      noRead : Rule
-      noRead = record { head = 0; body = [] }
+
+pub heights-same : (b : List ℕ) (r : ℕ) → usesHigher (levelsOf (tables b)) r (ruleRead b r) ≡ ruleFault b 9 r
+unfolding ruleFault ruleOf useFault
+heights-same b r = refl
 
 module _ (b : List ℕ) (v : Verdict) where
   pub heights-verdict : v ≡ verdictOf (ruleRefusal b 9) →
       v ≡ verdictOf (refusal9 (reading (tables b) .rules) (levelsOf (tables b)))
   unfolding refusal9
-  heights-verdict p = p ∙ ap verdictOf (rules-are b 9 (usesHigher (levelsOf (tables b))) same)
-    where
-      same : (r : ℕ) → usesHigher (levelsOf (tables b)) r (ruleRead b r) ≡ ruleFault b 9 r
-      same r = unfold ruleFault ruleOf useFault in refl
+  heights-verdict p = p ∙ ap verdictOf (rules-are b 9 (usesHigher (levelsOf (tables b))) (heights-same b))
 
   pub signs-verdict : v ≡ verdictOf (ruleRefusal b 10) →
       v ≡ verdictOf (refusal10 (reading (tables b)) (levelsOf (tables b)))

@@ -1,17 +1,14 @@
 -- Check 6: how far each element was compared with those after it, and where the comparing goes on. Assumes nothing.
-use mathlib.Core.Path.{_≡_, sym, _∙_}
+use mathlib.Core.Path.{_≡_, _∙_}
 use mathlib.Core.Logic.{by-cases, ⊎-elim}
 use mathlib.Core.List.{List}
 use Prim.Native.Nat.{ℕ, _+_, _<_, _≤_, max}
 use native.Mathlib.Decide.{decLt}
 use native.Mathlib.Nat.{eq-or-lt-of-le}
 use native.Mathlib.Omega.{arith}
-use lib.Dec.{eqb}
 use lib.ListN.{length, getD, getD-replicate, length-replicate, length-set, replicate, set}
-use lib.Seq.{getD-set-other, getD-set-same}
-use borrow.Author.Tests.{eqb-false, eqb-true}
-use Rattle.laws.proofs.Tests.{by-test}
 use Rattle.book.specs.Records.{elementIn}
+use Rattle.checks.proofs.StoreLaws.{stored}
 
 pub same-atom : (b : List ℕ) (x y : ℕ) → x ≡ y → elementIn b x .atom ≡ elementIn b y .atom
 same-atom b x y e = rw e
@@ -58,8 +55,5 @@ module _ (b : List ℕ) where
   seen-more seen i j r s a l e =
       record {
         room = length-set seen i r ∙ s .room;
-        at = λ x m.
-            by-test (eqb i x)
-            (λ t. rw (← eqb-true i x t, getD-set-same seen i r 0 (omega (arith, s .room)), e) a)
-            (λ f. rw (getD-set-other seen i x r 0 (λ q. eqb-false i x f (sym q))) (s .at x m));
+        at = λ x m. stored (Apart b x) seen i x r (omega (arith, s .room)) (λ q. rw (← q, e) a) (λ n. s .at x m);
       }

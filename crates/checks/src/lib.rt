@@ -13,7 +13,8 @@ mod pairs;
 mod given;
 // check 8: levels of certain and uncertain predicates
 mod mixture;
-// checks 9 to 11: the uses of rules
+// checks 9 to 11: the marks of comparisons, and the uses of rules
+mod shares;
 mod uses;
 // the twelve in their order
 pub mod check;

@@ -1,21 +1,21 @@
-// Checks 9 to 11: each rule against the atoms that it uses.
+// Checks 9 to 11: each rule against the atoms that it uses, those of a comparison by its mark.
 ghost use mathlib.Core.Path.{_≡_};
+ghost use mathlib.Core.Bool.{false};
+ghost use mathlib.Core.Option.{none};
 ghost use Prim.Native.Nat.{_<_};
 ghost use Rattle.meaning.specs.Format.{countOf, tables};
-ghost use Rattle.meaning.specs.Reading.{aggregateOf, levelsOf, reading, relationOf};
-ghost use Rattle.meaning.specs.Refusal.{grows, refusal10, refusal11, refusal9, shrinks};
+ghost use Rattle.meaning.specs.Reading.{levelsOf, reading};
+ghost use Rattle.meaning.specs.Refusal.{refusal10, refusal11, refusal9};
 ghost use Rattle.book.specs.Framed.{Framed, Indexed};
-ghost use Rattle.checks.specs.Uses.{comparisonFault, hypothesisFault, idleIn, ruleFault, ruleRefusal, signPositive, useFault};
+ghost use Rattle.checks.specs.Uses.{comparisonFault, hypothesisFault, idleIn, ruleFault, ruleRefusal, useFault};
+ghost use Rattle.checks.specs.Shares.{Lower, MarksTo, Ranked};
 ghost use Rattle.checks.specs.Verdicts.{verdictOf};
+use crate::numbers::wide;
+use crate::shares::limit_in;
+use crate::shares::marks;
 use crate::verdict::Verdict;
 use book::atoms::is_certain;
 use book::atoms::level_of;
-use book::fields::comparison_aggregate;
-use book::fields::comparison_first;
-use book::fields::comparison_many;
-use book::fields::comparison_relation;
-use book::fields::element_atom;
-use book::fields::element_sign;
 use book::fields::hypothesis_index;
 use book::fields::hypothesis_sort;
 use book::fields::rule_first;
@@ -40,60 +40,21 @@ fn use_fault(book: &[u8], check: usize, head: usize, atom: usize, positive: bool
     is_certain(book, head) & !is_certain(book, atom)
 }
 
-// Is an element of sign 0 used positively?
-fn grows_in(aggregate: usize, relation: usize) -> bool
-    ensures { λ r. ⌜ r ≡ grows (aggregateOf aggregate) (relationOf relation) ⌝ }
-{
-    match aggregate {
-        1 => false,
-        2 => (2 <= relation) & (relation < 4),
-        _ => 4 <= relation,
-    }
-}
-
-// Is an element of sign 1?
-fn shrinks_in(aggregate: usize, relation: usize) -> bool
-    ensures { λ r. ⌜ r ≡ shrinks (aggregateOf aggregate) (relationOf relation) ⌝ }
-{
-    match aggregate {
-        0 => (2 <= relation) & (relation < 4),
-        _ => false,
-    }
-}
-
-fn positive_in(aggregate: usize, relation: usize, sign: usize) -> bool
-    ensures { λ r. ⌜ r ≡ signPositive aggregate relation sign ⌝ }
-{
-    if sign == 0 {
-        grows_in(aggregate, relation)
-    } else {
-        shrinks_in(aggregate, relation)
-    }
-}
-
 // Is some element of comparison c at fault?
-fn comparison_fault(book: &[u8], check: usize, head: usize, c: usize) -> bool
-    requires { ⌜ Framed (now book) × Indexed (now book) × (head < countOf (now book) 1) × (c < countOf (now book) 4) ⌝ }
+fn comparison_fault(book: &[u8], marks: &[u16], check: usize, head: usize, c: usize) -> bool
+    requires { ⌜ (let b = now book in Framed b × Indexed b × MarksTo b check (countOf b 4) (now marks)
+        × (head < countOf b 1) × (idleIn b check head ≡ false) × (c < countOf b 4)
+        × Lower check (comparisonFault b 9 head c)) ⌝ }
     ensures { λ r. ⌜ r ≡ comparisonFault (now (book .entry)) check head c ⌝ }
 {
-    let aggregate = comparison_aggregate(book, c);
-    let relation = comparison_relation(book, c);
-    let first = comparison_first(book, c);
-    let end = first + comparison_many(book, c);
-    let mut e = first;
-    while e < end {
-        let positive = positive_in(aggregate, relation, element_sign(book, e));
-        if use_fault(book, check, head, element_atom(book, e), positive) {
-            return true;
-        }
-        e += 1;
-    }
-    false
+    limit_in(book, check, head) < wide(marks[c])
 }
 
 // Is something that hypothesis h uses?
-fn hypothesis_fault(book: &[u8], check: usize, head: usize, h: usize) -> bool
-    requires { ⌜ Framed (now book) × Indexed (now book) × (head < countOf (now book) 1) × (h < countOf (now book) 3) ⌝ }
+fn hypothesis_fault(book: &[u8], marks: &[u16], check: usize, head: usize, h: usize) -> bool
+    requires { ⌜ (let b = now book in Framed b × Indexed b × MarksTo b check (countOf b 4) (now marks)
+        × (head < countOf b 1) × (idleIn b check head ≡ false) × (h < countOf b 3)
+        × Lower check (hypothesisFault b 9 head h)) ⌝ }
     ensures { λ r. ⌜ r ≡ hypothesisFault (now (book .entry)) check head h ⌝ }
 {
     let sort = hypothesis_sort(book, h);
@@ -101,7 +62,7 @@ fn hypothesis_fault(book: &[u8], check: usize, head: usize, h: usize) -> bool
     match sort {
         0 => use_fault(book, check, head, index, true),
         1 => use_fault(book, check, head, index, false),
-        _ => comparison_fault(book, check, head, index),
+        _ => comparison_fault(book, marks, check, head, index),
     }
 }
 
@@ -114,8 +75,9 @@ fn idle(book: &[u8], check: usize, head: usize) -> bool
 }
 
 // Is something that rule r uses?
-fn rule_fault(book: &[u8], check: usize, r: usize) -> bool
-    requires { ⌜ Framed (now book) × Indexed (now book) × (r < countOf (now book) 2) ⌝ }
+fn rule_fault(book: &[u8], marks: &[u16], check: usize, r: usize) -> bool
+    requires { ⌜ (let b = now book in Framed b × Indexed b × MarksTo b check (countOf b 4) (now marks)
+        × (r < countOf b 2) × Lower check (ruleFault b 9 r)) ⌝ }
     ensures { λ v. ⌜ v ≡ ruleFault (now (book .entry)) check r ⌝ }
 {
     let head = rule_head(book, r);
@@ -126,7 +88,7 @@ fn rule_fault(book: &[u8], check: usize, r: usize) -> bool
     let end = first + rule_many(book, r);
     let mut h = first;
     while h < end {
-        if hypothesis_fault(book, check, head, h) {
+        if hypothesis_fault(book, marks, check, head, h) {
             return true;
         }
         h += 1;
@@ -136,13 +98,14 @@ fn rule_fault(book: &[u8], check: usize, r: usize) -> bool
 
 // The lowest rule at fault.
 fn check_rules(book: &[u8], check: usize) -> Verdict
-    requires { ⌜ Framed (now book) × Indexed (now book) × (check < 256) ⌝ }
+    requires { ⌜ Framed (now book) × Indexed (now book) × (check < 256) × Ranked (now book) check ⌝ }
     ensures { λ r. ⌜ r ≡ verdictOf (ruleRefusal (now (book .entry)) check) ⌝ }
 {
+    let found = marks(book, check);
     let n = count_of(book, 2);
     let mut r = 0;
     while r < n {
-        if rule_fault(book, check, r) {
+        if rule_fault(book, &found, check, r) {
             return Verdict::Refused {
                 number: narrow(check),
                 table: 3,
@@ -162,9 +125,10 @@ pub(crate) fn check_heights(book: &[u8]) -> Verdict
     check_rules(book, 9)
 }
 
-// 10: the head is certain and uses a predicate of its own level non-positively.
+// 10: the head is certain and uses a predicate of its own level non-positively. It is made after 9.
 pub(crate) fn check_signs(book: &[u8]) -> Verdict
-    requires { ⌜ Framed (now book) × Indexed (now book) ⌝ }
+    requires { ⌜ Framed (now book) × Indexed (now book)
+        × (let t = tables (now book) in refusal9 (reading t .rules) (levelsOf t) ≡ none) ⌝ }
     ensures { λ r. ⌜ r ≡ verdictOf (let t = tables (now (book .entry)) in refusal10 (reading t) (levelsOf t)) ⌝ }
 {
     check_rules(book, 10)

@@ -1,8 +1,8 @@
--- `uses::positive_in` meets its contract: by the sign. Assumes nothing.
+-- `shares::positive_in` meets its contract: by the sign. Assumes nothing.
 use borrow.Author.Needs.{needs}
 use Rattle.checks.proofs.SignLaws.{signs}
-use Rattle.checks.proofs.uses.positive_in.Statement.{statement}
-use Rattle.checks.proofs.uses.positive_in.Tie as tie
+use Rattle.checks.proofs.shares.positive_in.Statement.{statement}
+use Rattle.checks.proofs.shares.positive_in.Tie as tie
 
 pub positive-in-spec : {M : Type 1} → statement M
 positive-in-spec =

@@ -1,8 +1,8 @@
--- `uses::shrinks_in` meets its contract: the relations below, for count alone. Assumes nothing.
+-- `shares::shrinks_in` meets its contract: the relations below, for count alone. Assumes nothing.
 use borrow.Author.Needs.{needs}
 use Rattle.checks.proofs.SignLaws.{signs}
-use Rattle.checks.proofs.uses.shrinks_in.Statement.{statement}
-use Rattle.checks.proofs.uses.shrinks_in.Tie as tie
+use Rattle.checks.proofs.shares.shrinks_in.Statement.{statement}
+use Rattle.checks.proofs.shares.shrinks_in.Tie as tie
 
 pub shrinks-in-spec : {M : Type 1} → statement M
 shrinks-in-spec =

@@ -1,8 +1,8 @@
--- `uses::grows_in` meets its contract: the relations above, and below for min. Assumes nothing.
+-- `shares::grows_in` meets its contract: the relations above, and below for min. Assumes nothing.
 use borrow.Author.Needs.{needs}
 use Rattle.checks.proofs.SignLaws.{signs}
-use Rattle.checks.proofs.uses.grows_in.Statement.{statement}
-use Rattle.checks.proofs.uses.grows_in.Tie as tie
+use Rattle.checks.proofs.shares.grows_in.Statement.{statement}
+use Rattle.checks.proofs.shares.grows_in.Tie as tie
 
 pub grows-in-spec : {M : Type 1} → statement M
 grows-in-spec =
