@@ -37,16 +37,12 @@ fn long(book: &[u8], i: usize) -> usize
     word(book, i) + 65536 * word(book, i + 2)
 }
 
-// Two's complement of 32 bits.
+// Two's complement of 32 bits: a turn by half of the range, taken back as a signed number.
 fn signed_of(x: usize) -> i64
     requires { ⌜ x < 2 ^ 32 ⌝ }
     ensures { λ r. ⌜ (r ≡ signed x) × (natAbs r ≤ 2 ^ 31) ⌝ }
 {
-    if x < 2147483648 {
-        x as i64
-    } else {
-        (x as i64) - 4294967296
-    }
+    ((x + 2147483648) % 4294967296) as i64 - 2147483648
 }
 
 pub(crate) fn signed_at(book: &[u8], i: usize) -> i64
