@@ -25,6 +25,11 @@ use Rattle.judge.specs.Held.{held, recordTruth, recordsTruth, ruleRecord
 use Rattle.laws.proofs.Lasts.{slice-more, slice-start}
 use Rattle.judge.proofs.CodeLaws.{code-back, rest-undefined}
 
+above-one : (s : ℕ) → (s ≡ 0 → ⊥) → (s ≡ 1 → ⊥) → 2 ≤ s
+above-one zero n0 n1 = absurd (n0 refl)
+above-one (suc zero) n0 n1 = absurd (n1 refl)
+above-one (suc (suc s)) n0 n1 = omega arith
+
 -- where a hypothesis points: among the atoms by sorts 0 and 1, else among the comparisons
 module _
     (b W : List ℕ)
@@ -39,8 +44,14 @@ module _
   pub atom-of : countOf b 1 ≤ length W → s < 2 → i < length W
   atom-of m n = let p = rw (lt-ltb s 2 n) at index-within in omega (arith, p, m)
 
-  pub comparison-of : countOf b 4 ≤ length W → 2 ≤ s → i < length W
-  comparison-of m n = let p = rw (le-ltb s 2 n) at index-within in omega (arith, p, m)
+  pub atom-plain : s ≡ 0 → countOf b 1 ≤ length W → i < length W
+  atom-plain e m = atom-of m (omega (arith, e))
+
+  pub atom-negated : s ≡ 1 → countOf b 1 ≤ length W → i < length W
+  atom-negated e m = atom-of m (omega (arith, e))
+
+  pub comparison-of : countOf b 4 ≤ length W → (s ≡ 0 → ⊥) → (s ≡ 1 → ⊥) → i < length W
+  comparison-of m n0 n1 = let p = rw (le-ltb s 2 (above-one s n0 n1)) at index-within in omega (arith, p, m)
 
 -- its truth, by its sort
 pub literal-sort : (A K : Answers) (s i : ℕ) → s < 2 → literalTruth A (literalOf s i) ≡ sortTruth A K s i
@@ -55,14 +66,15 @@ known-sort A K (suc zero) i l = absurd (omega (arith, l))
 known-sort A K (suc (suc s)) i l = refl
 
 module _ (b W K : List ℕ) (h s i x : ℕ) (es : s ≡ hypothesisIn b h .sort) (ei : i ≡ hypothesisIn b h .index) where
-  pub literal-is : s < 2 → x ≡ codeOf (literalTruth (held W) (literalOf s i)) →
+  pub literal-is : (t : ℕ) → x ≡ codeOf (literalTruth (held W) (literalOf t i)) → s ≡ t → t < 2 →
       x ≡ codeOf (recordTruth (held W) (held K) (hypothesisIn b h))
-  literal-is l e = e ∙ rw (← es, ← ei) (ap codeOf (literal-sort (held W) (held K) s i l))
+  literal-is t e st l = e ∙ rw (← es, ← ei, st) (ap codeOf (literal-sort (held W) (held K) t i l))
 
-  pub known-is : 2 ≤ s → x ≡ codeOf (held K i) → x ≡ codeOf (recordTruth (held W) (held K) (hypothesisIn b h))
-  known-is l e = e ∙ rw (← es, ← ei) (ap codeOf (known-sort (held W) (held K) s i l))
+  pub known-is : x ≡ codeOf (held K i) → (s ≡ 0 → ⊥) → (s ≡ 1 → ⊥) →
+      x ≡ codeOf (recordTruth (held W) (held K) (hypothesisIn b h))
+  known-is e n0 n1 = e ∙ rw (← es, ← ei) (ap codeOf (known-sort (held W) (held K) s i (above-one s n0 n1)))
 
-pub ruleset sorts = (atom-of, comparison-of, literal-is, known-is)
+pub ruleset sorts = (atom-plain, atom-negated, comparison-of, literal-is, known-is)
 
 -- meets
 meet-true : (x : Truth) → meet x Truth.true ≡ x

@@ -3,7 +3,7 @@
 use mathlib.Core.Path.{_≡_, refl, sym, ap, _∙_}
 use mathlib.Core.Bool.{true, false}
 use mathlib.Core.List.{List}
-use Prim.Native.Nat.{ℕ, zero, suc}
+use Prim.Native.Nat.{ℕ, zero, suc, _<_, _≤_}
 use native.Mathlib.Omega.{arith}
 use lib.Dec.{eqb}
 use lib.IntN.{ℤ, pos}
@@ -32,21 +32,23 @@ rest-undefined (suc zero) p q = absurd (p refl)
 rest-undefined (suc (suc zero)) p q = absurd (q refl)
 rest-undefined (suc (suc (suc x))) p q = refl
 
--- an answer held in memory
+-- an answer held in memory: below 3 the byte is its code
+code-itself : (x : ℕ) → x < 3 → x ≡ codeOf (truthOf x)
+code-itself zero l = refl
+code-itself (suc zero) l = refl
+code-itself (suc (suc zero)) l = refl
+code-itself (suc (suc (suc x))) l = absurd (omega (arith, l))
+
 module _ (W : List ℕ) (a : ℕ) where
-  pub held-true : getD W a 0 ≡ 1 → 1 ≡ codeOf (held W a)
+  pub held-code : getD W a 0 < 3 → getD W a 0 ≡ codeOf (held W a)
   unfolding held
-  held-true e = rw e
+  held-code l = code-itself (getD W a 0) l
 
-  pub held-false : getD W a 0 ≡ 2 → 2 ≡ codeOf (held W a)
+  pub held-rest : 3 ≤ getD W a 0 → 0 ≡ codeOf (held W a)
   unfolding held
-  held-false e = rw e
+  held-rest l = rw (rest-undefined (getD W a 0) (λ e. omega (arith, l, e)) (λ e. omega (arith, l, e)))
 
-  pub held-rest : (getD W a 0 ≡ 1 → ⊥) → (getD W a 0 ≡ 2 → ⊥) → 0 ≡ codeOf (held W a)
-  unfolding held
-  held-rest p q = rw (rest-undefined (getD W a 0) p q)
-
-pub ruleset answers = (held-true, held-false, held-rest)
+pub ruleset answers = (held-code, held-rest)
 
 -- a literal, by its sign
 negated-is : (A : Answers) (s a : ℕ) → (s ≡ 0 → ⊥) → literalTruth A (literalOf s a) ≡ flip (A a)

@@ -25,7 +25,8 @@ pub fn hypothesis(book: &[u8], answers: &[u8], known: &[u8], h: usize) -> u8
     let sort = hypothesis_sort(book, h);
     let i = hypothesis_index(book, h);
     match sort {
-        0 | 1 => literal(answers, sort, i),
+        0 => literal(answers, 0, i),
+        1 => literal(answers, 1, i),
         2.. => answer(known, i),
     }
 }

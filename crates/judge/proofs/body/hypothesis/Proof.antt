@@ -8,4 +8,5 @@ pub hypothesis-spec : {M : Type 1} → statement M
 hypothesis-spec =
     tie.close
     (tie.spec (λ c κs. search needs) (λ c κs. search needs) (λ c κs. search (needs, sorts))
-    (λ c κs. search (needs, sorts)) (λ c. search (needs, sorts)) (λ c. search (needs, sorts)))
+    (λ c κs. search (needs, sorts)) (λ c κs. search (needs, sorts)) (λ c. search (needs, sorts))
+    (λ c. search (needs, sorts)) (λ c. search (needs, sorts)))

@@ -5,7 +5,4 @@ use Rattle.judge.proofs.literal.answer.Statement.{statement}
 use Rattle.judge.proofs.literal.answer.Tie as tie
 
 pub answer-spec : {M : Type 1} → statement M
-answer-spec =
-    tie.close
-    (tie.spec (λ c. search needs) (λ c. search (needs, answers)) (λ c. search (needs, answers))
-    (λ c. search (needs, answers)))
+answer-spec = tie.close (tie.spec (λ c. search needs) (λ c. search (needs, answers)) (λ c. search (needs, answers)))
