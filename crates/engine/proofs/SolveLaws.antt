@@ -23,7 +23,7 @@ use Rattle.meaning.specs.Outcome.{modelOf}
 use Rattle.book.specs.Records.{levelRead}
 use Rattle.judge.specs.Held.{held}
 use Rattle.steps.specs.Work.{Ready, answersIn, levelsIn, rulesIn}
-use Rattle.steps.specs.Round.{pendingIn}
+use Rattle.steps.specs.Due.{pendingIn}
 use Rattle.engine.specs.Turns.{Levelled, Rested}
 use Rattle.steps.proofs.WorkLaws.{prefix-count, prefix-length, prefix-room}
 

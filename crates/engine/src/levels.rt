@@ -8,7 +8,7 @@ ghost use Rattle.meaning.specs.Format.{countOf, tables};
 ghost use Rattle.meaning.specs.Reading.{codeOf, givenOf, truthOf};
 ghost use Rattle.meaning.specs.Model.{close, closing};
 ghost use Rattle.steps.specs.Work.{Ready, answersIn, levelsIn, rulesIn};
-ghost use Rattle.steps.specs.Round.{pendingIn};
+ghost use Rattle.steps.specs.Due.{pendingIn};
 use book::atoms::is_certain;
 use book::atoms::level_of;
 use book::fields::atom_given;
@@ -16,7 +16,7 @@ use book::readers::count_of;
 use book::readers::narrow;
 use judge::literal::answer;
 use judge::literal::set_answer;
-use steps::gather::pending;
+use steps::due::pending;
 
 // Is some atom of the level undefined? A level without one costs no more than this look.
 pub fn busy(book: &[u8], answers: &[u8], level: usize) -> bool

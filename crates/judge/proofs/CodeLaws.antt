@@ -33,7 +33,7 @@ rest-undefined (suc (suc zero)) p q = absurd (q refl)
 rest-undefined (suc (suc (suc x))) p q = refl
 
 -- an answer held in memory: below 3 the byte is its code
-code-itself : (x : ℕ) → x < 3 → x ≡ codeOf (truthOf x)
+pub code-itself : (x : ℕ) → x < 3 → x ≡ codeOf (truthOf x)
 code-itself zero l = refl
 code-itself (suc zero) l = refl
 code-itself (suc (suc zero)) l = refl

@@ -46,6 +46,12 @@ module _ (f : ℕ → Bool) where
   number-all zero h = refl
   number-all (suc k) h = both (number-all k (λ j l. h j (omega (arith, l)))) (h k (omega arith))
 
+-- two tests that agree below a bound
+pub any-same : (f g : ℕ → Bool) (k : ℕ) → ((j : ℕ) → j < k → f j ≡ g j) → anyTo f k ≡ anyTo g k
+unfolding anyTo
+any-same f g zero h = refl
+any-same f g (suc k) h = rw (any-same f g k (λ j l. h j (omega (arith, l))), h k (omega arith))
+
 -- over a list's entries, by their places
 module _ {X : Type 0} (d : X) (g : X → Bool) (f : ℕ → Bool) (xs : List X) (same : (k : ℕ) →
     k < length xs → g (getD xs k d) ≡ f k) where

@@ -13,7 +13,7 @@ use borrow.Author.Tests.{eq-eqb, eqb-false, eqb-true, not-false}
 use Rattle.laws.specs.Lists.{In}
 use Rattle.laws.proofs.Entries.{getD-in, in-getD, in-map, map-in}
 use Rattle.laws.proofs.Places.{getD-out}
-use Rattle.laws.proofs.Tests.{and-fails, both, by-test, left, not-of, of-not, right, test-clash}
+use Rattle.laws.proofs.Tests.{and-all, and-fails, and-none, both, by-test, left, not-of, of-not, right, test-clash}
 use Rattle.theory.specs.Truth.{Truth, isFalse, isTrue, isUndefined, _≼_}
 use Rattle.theory.specs.Answers.{Answers, Atoms, NoneTrue, _⊑_, wipe}
 use Rattle.theory.proofs.Truth.{by-answer, false-of, true-of, undefined-of, undefined-true, undefined-false}
@@ -32,7 +32,9 @@ use Rattle.book.specs.Framed.{Indexed}
 use Rattle.book.specs.Records.{kindRead, levelRead, ruleIn, ruleRead}
 use Rattle.judge.specs.Held.{held}
 use Rattle.steps.specs.Work.{Exact, answersIn, levelsIn, rulesIn}
-use Rattle.steps.specs.Strike.{Assumed, Follows, candidateIn, onlyAssumed, strikesAt}
+use Rattle.steps.specs.Due.{Due, dueIn, pendingIn, stepsOf}
+use Rattle.steps.specs.Strike.{Assumed, Counted, Follows, candidateIn, onlyAssumed, strikesAt}
+use Rattle.steps.proofs.DueLaws.{steps-three}
 use Rattle.steps.proofs.WorkLaws.{read-held, held-other, held-out, held-same}
 
 -- the greatest unfounded set, at the answers held in memory
@@ -96,6 +98,23 @@ assumed-start b n L W size long at = record {
   candidates = λ a c. c;
   every = λ U u a m. let (k, l) = u .closed a m in of-candidate b n L a k l (u .none-true a m);
 }
+
+-- the candidates that are not false already are the atoms to which all three steps are due
+counts-candidate : (x : Truth) (here : Bool) (k : Kind) →
+    cond (eqb (cond (isUndefined x && here) (stepsOf k) 0) 3) Truth.false x ≡
+    cond (isClosed k && here && not (isTrue x)) Truth.false x
+counts-candidate Truth.undefined true k = rw (steps-three k, and-all (isClosed k), and-all (isClosed k))
+counts-candidate Truth.undefined false k = rw (and-none (isClosed k))
+counts-candidate Truth.true here k = rw (and-none (isClosed k && here))
+counts-candidate Truth.false here k = by-test (isClosed k && here && true) (λ t. rw t) (λ f. rw f)
+
+pub counted-assumed : (b : List ℕ) (n : ℕ) (L D W : List ℕ) → length L ≡ countOf b 1 → Due b n L D →
+    Counted L D W → Assumed b n L W
+unfolding dueIn pendingIn candidateIn
+counted-assumed b n L D W size d w =
+    assumed-start b n L W size (w .long)
+    (λ a l. w .at a (omega (arith, l, size)) ∙
+    rw (d .steps a l) (counts-candidate (held L a) (eqb (levelRead b a) n) (kindRead b a)))
 
 -- rule r of a book, among the rules as read
 rules-length : (b : List ℕ) → length (tables b .rules) ≡ countOf b 2

@@ -1,25 +1,21 @@
 -- Gathering: what one rule more does to what has been gathered. Assumes nothing.
 use mathlib.Core.Path.{_≡_, refl, sym, ap, ap₂, _∙_, subst}
 use mathlib.Core.Logic.{by-cases}
-use mathlib.Core.Bool.{Bool, true, false, So}
 use mathlib.Core.List.{List}
 use Prim.Native.Nat.{ℕ, zero, suc, _+_, _<_, _≤_}
 use native.Mathlib.Decide.{ℕ-discrete}
 use native.Mathlib.Numerals.{add-one}
 use native.Mathlib.Omega.{arith}
-use lib.Dec.{eqb}
 use lib.ListN.{length, getD, length-replicate, length-set, getD-replicate, replicate, set}
 use lib.Seq.{getD-set-other, getD-set-same}
 use borrow.Author.Tests.{eq-eqb, ne-eqb}
-use Rattle.laws.proofs.Tests.{test-clash}
-use Rattle.theory.specs.Truth.{Truth, isUndefined}
+use Rattle.theory.specs.Truth.{Truth}
 use Rattle.meaning.specs.Format.{countOf}
 use Rattle.meaning.specs.Reading.{codeOf, truthOf}
-use Rattle.book.specs.Records.{levelRead, ruleIn}
+use Rattle.book.specs.Records.{ruleIn}
 use Rattle.judge.proofs.CodeLaws.{code-back}
-use Rattle.judge.specs.Held.{held}
 use Rattle.steps.specs.Work.{Ready}
-use Rattle.steps.specs.Round.{Gathered, bodyIn, headTruth, join, pendingIn}
+use Rattle.steps.specs.Round.{Gathered, bodyIn, headTruth, join}
 use Rattle.steps.proofs.WorkLaws.{few}
 
 -- codes other than 1 and 2 are undefined
@@ -42,43 +38,23 @@ module _ (x y : ℕ) (m : x ≡ 1 → ⊥) (n : x ≡ 2 → ⊥) where
       rest (suc (suc zero)) e = refl
       rest (suc (suc (suc y))) e = refl
 
--- an atom still to be decided
-zero-undefined : (t : Truth) → eqb (codeOf t) 0 ≡ isUndefined t
-zero-undefined Truth.undefined = refl
-zero-undefined Truth.true = refl
-zero-undefined Truth.false = refl
-
-module _ (b : List ℕ) (n : ℕ) (L : List ℕ) (a x : ℕ) (p : x ≡ codeOf (held L a)) where
-  undefined-is : isUndefined (held L a) ≡ eqb x 0
-  undefined-is = sym (ap (λ (k : ℕ). eqb k 0) p ∙ zero-undefined (held L a))
-
-  pub pending-decided : (x ≡ 0 → ⊥) → false ≡ pendingIn b n L a
-  unfolding pendingIn
-  pending-decided m = rw (undefined-is, ne-eqb x 0 m)
-
-  pub pending-level : (l : ℕ) → x ≡ 0 → l ≡ levelRead b a → eqb l n ≡ pendingIn b n L a
-  unfolding pendingIn
-  pending-level l e q = rw (undefined-is, eq-eqb x 0 e, q)
-
-pub ruleset pends = (pending-decided, pending-level)
-
 -- the loop over the rules
-module _ (b : List ℕ) (n : ℕ) (L K : List ℕ) (F : Ready b) where
-  pub gathered-none : Gathered b n L K (replicate 2048 2) 0
+module _ (b L K D : List ℕ) (F : Ready b) where
+  pub gathered-none : Gathered b L K D (replicate 2048 2) 0
   unfolding headTruth
   gathered-none = record {
     long = length-replicate {A = ℕ} 2048 2;
     truths = λ a l _. ap truthOf (getD-replicate 2048 a 2 0 (omega (arith, l, few b F)));
   }
 
-  module _ (best : List ℕ) (k h : ℕ) (e : h ≡ ruleIn b k .head) (G : Gathered b n L K best k) where
+  module _ (best : List ℕ) (k h : ℕ) (e : h ≡ ruleIn b k .head) (G : Gathered b L K D best k) where
     -- the rule concludes another atom
     other : (a : ℕ) → (h ≡ a → ⊥) → headTruth b L K a (k + 1) ≡ headTruth b L K a k
     unfolding headTruth
     other a m = rw (add-one, ne-eqb (ruleIn b k .head) a (λ z. m (e ∙ z)))
 
     -- or this one
-    own : (x : ℕ) → h < countOf b 1 → x ≡ codeOf (bodyIn b L K k) → So (pendingIn b n L h) →
+    own : (x : ℕ) → h < countOf b 1 → x ≡ codeOf (bodyIn b L K k) → (getD D h 0 ≡ 0 → ⊥) →
         join (truthOf (getD best h 0)) (truthOf x) ≡ headTruth b L K h (k + 1)
     unfolding headTruth
     own x l p t =
@@ -86,8 +62,8 @@ module _ (b : List ℕ) (n : ℕ) (L K : List ℕ) (F : Ready b) where
         rw (add-one, eq-eqb (ruleIn b k .head) h (sym e))
 
     pub gathered-more : (v x : ℕ) → h < countOf b 1 → x ≡ codeOf (bodyIn b L K k) →
-        truthOf v ≡ join (truthOf (getD best h 0)) (truthOf x) → So (pendingIn b n L h) →
-        Gathered b n L K (set best h v) (k + 1)
+        truthOf v ≡ join (truthOf (getD best h 0)) (truthOf x) → (getD D h 0 ≡ 0 → ⊥) →
+        Gathered b L K D (set best h v) (k + 1)
     gathered-more v x l p q t = record {
       long = length-set best h v ∙ G .long;
       truths = λ a m s. by-cases (ℕ-discrete h a)
@@ -96,19 +72,11 @@ module _ (b : List ℕ) (n : ℕ) (L K : List ℕ) (F : Ready b) where
           (λ w. ap truthOf (getD-set-other best h a v 0 (λ z. w (sym z))) ∙ G .truths a m s ∙ sym (other a w));
     }
 
-    pub gathered-skip : pendingIn b n L h ≡ false → Gathered b n L K best (k + 1)
-    gathered-skip f = record {
+    pub gathered-other : getD D h 0 ≡ 0 → Gathered b L K D best (k + 1)
+    gathered-other f = record {
       long = G .long;
-      truths = λ a m s. G .truths a m s ∙ sym (other a (λ w. test-clash s (rw w at f)));
+      truths = λ a m s. G .truths a m s ∙ sym (other a (λ w. s (rw w at f)));
     }
-
-    pub gathered-pending : (v x : ℕ) (t : Bool) → h < countOf b 1 → x ≡ codeOf (bodyIn b L K k) →
-        truthOf v ≡ join (truthOf (getD best h 0)) (truthOf x) → t ≡ pendingIn b n L h → t ≡ true →
-        Gathered b n L K (set best h v) (k + 1)
-    gathered-pending v x t l p q e₁ e₂ = gathered-more v x l p q (sym e₁ ∙ e₂)
-
-    pub gathered-other : (t : Bool) → t ≡ pendingIn b n L h → t ≡ false → Gathered b n L K best (k + 1)
-    gathered-other t e₁ e₂ = gathered-skip (sym e₁ ∙ e₂)
 
 -- a head is an atom, and atoms fit the array
 pub head-there : (b : List ℕ) (k m h : ℕ) → Ready b → m ≡ countOf b 2 → k < m → h ≡ ruleIn b k .head → h < countOf b 1
@@ -121,13 +89,13 @@ head-fits b k m h best F z e l q = omega (arith, head-there b k m h F e l q, few
 pub head-small : (b : List ℕ) (k m h : ℕ) → Ready b → m ≡ countOf b 2 → k < m → h ≡ ruleIn b k .head → h < 2048
 head-small b k m h F e l q = omega (arith, head-there b k m h F e l q, few b F)
 
-pub gathered-all : (b : List ℕ) (n : ℕ) (L K best : List ℕ) (k m : ℕ) → m ≡ countOf b 2 → k ≤ m → m ≤ k →
-    Gathered b n L K best k → Gathered b n L K best (countOf b 2)
-gathered-all b n L K best k m e l o G = let q : k ≡ countOf b 2 = omega (arith, e, l, o) in rw (← q) G
+pub gathered-all : (b L K D best : List ℕ) (k m : ℕ) → m ≡ countOf b 2 → k ≤ m → m ≤ k →
+    Gathered b L K D best k → Gathered b L K D best (countOf b 2)
+gathered-all b L K D best k m e l o G = let q : k ≡ countOf b 2 = omega (arith, e, l, o) in rw (← q) G
 
 pub ruleset gathering = (
   gathered-none,
-  gathered-pending,
+  gathered-more,
   gathered-other,
   head-there,
   head-fits,

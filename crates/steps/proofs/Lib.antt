@@ -3,6 +3,8 @@
 pub mod WorkLaws
 -- the truths of all comparisons
 pub mod KnownLaws
+-- what a round may do to each atom
+pub mod DueLaws
 -- the loop that gathers
 pub mod GatherLaws
 -- what a round gathers is what steps (a) and (b) ask

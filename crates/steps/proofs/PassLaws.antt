@@ -15,8 +15,9 @@ use Rattle.meaning.specs.Reading.{truthOf}
 use Rattle.book.specs.Records.{ruleIn}
 use Rattle.judge.specs.Held.{held}
 use Rattle.steps.specs.Work.{Exact, Ready}
-use Rattle.steps.specs.Strike.{Assumed, Ends, Follows, Lags, falses, onlyAssumed, strikesAt}
-use Rattle.steps.proofs.AssumedLaws.{follows-none, follows-struck, less-known, quiet-exact, settled-exact, strike-of}
+use Rattle.steps.specs.Strike.{Assumed, Counted, Ended, Ends, Follows, Lags, Stands, falses, onlyAssumed, strikesAt}
+use Rattle.steps.proofs.WorkLaws.{few}
+use Rattle.steps.proofs.AssumedLaws.{counted-assumed, follows-none, follows-struck, less-known, quiet-exact, settled-exact, strike-of}
 use Rattle.steps.proofs.FailLaws.{lags-less, lags-long, lags-start}
 
 -- a false answer that is made undefined
@@ -161,11 +162,24 @@ module _ (b L B T W : List ℕ) (t : Follows b L B T) where
 pub ruleset turning = (as-long, follows-follows, follows-ends, settled-ends)
 
 -- turns until the end
-module _ (b L B W : List ℕ) (level : ℕ) (w : Assumed b level L B) where
-  pub turn-assumed : Follows b L B W → Assumed b level L W
-  turn-assumed f = f .keeps level w
+pub turn-start : (b L D W : List ℕ) → Counted L D W → length L ≡ countOf b 1 → Stands b L D W
+turn-start b L D W w size = record { assumed = λ n d. counted-assumed b n L D W size d w }
 
-  pub turn-exact : (struck : ℕ) → Ends b L B W struck → struck ≡ 0 → Exact b level L W
-  turn-exact struck e z = e .exact z level w
+module _ (b L D B W : List ℕ) (w : Stands b L D B) where
+  pub turn-stands : Follows b L B W → Stands b L D W
+  turn-stands f = record { assumed = λ n d. f .keeps n (w .assumed n d) }
 
-pub ruleset turns = (as-long, turn-assumed, turn-exact, settled)
+  pub turn-ended : (struck : ℕ) → Ends b L B W struck → struck ≡ 0 → Ended b L D W
+  turn-ended struck e z = record { exact = λ n d. e .exact z n (w .assumed n d) }
+
+pub turn-settled : (b L D W : List ℕ) (s : Bool) → Stands b L D W → s ≡ anyTo (onlyAssumed L W) (length L) →
+    s ≡ false → Ready b → length L ≡ countOf b 1 → Ended b L D W
+turn-settled b L D W s w p f R size = record { exact = λ n d. settled b L W s R size p f n (w .assumed n d) }
+
+pub due-within : (b L D : List ℕ) → Ready b → length L ≡ countOf b 1 → length D ≡ 2048 → length L ≤ length D
+due-within b L D R size e = omega (arith, few b R, size, e)
+
+pub counted-long : (L D W : List ℕ) (n : ℕ) → Counted L D W → length L ≡ n → length W ≡ n
+counted-long L D W n w e = w .long ∙ e
+
+pub ruleset turns = (as-long, turn-start, turn-stands, turn-ended, turn-settled, due-within, counted-long)

@@ -15,23 +15,25 @@ use Rattle.meaning.specs.Reading.{truthOf}
 use Rattle.meaning.specs.Model.{next, round, unfounded}
 use Rattle.judge.specs.Held.{held}
 use Rattle.steps.specs.Work.{Exact, Known, Ready, answersIn, levelsIn, rulesIn}
+use Rattle.steps.specs.Due.{Due}
+use Rattle.steps.specs.Strike.{Ended}
 use Rattle.steps.specs.Round.{Gathered, Judged, Settled, Turn}
 use Rattle.steps.proofs.WorkLaws.{few, written-all}
 use Rattle.steps.proofs.HeadLaws.{head-derived, head-refuted}
+use Rattle.steps.proofs.SettleLaws.{next-is}
 
 -- what has been gathered from all rules is what steps (a) and (b) ask
-pub gathered-judged : (b : List ℕ) (n : ℕ) (L K best : List ℕ) → Ready b → Known b L K →
-    Gathered b n L K best (countOf b 2) →
-    Judged b n L best
-gathered-judged b n L K best F N G = record {
-  long = G .long;
+gathered-judged : (b L K D best : List ℕ) → Ready b → Known b L K → Gathered b L K D best (countOf b 2) →
+    Judged b L D best
+gathered-judged b L K D best F N G = record {
   rises = λ a l p. ap isTrue (G .truths a l p) ∙ head-derived b L K a F N;
   sinks = λ a l p. ap isFalse (G .truths a l p) ∙ head-refuted b L K a F N;
 }
 
 -- what has been written at all atoms is the model's round
-module _ (b : List ℕ) (n : ℕ) (L now : List ℕ) (c : Bool) (F : Ready b) (s : length L ≡ countOf b 1)
-    (S : Settled b n L now c (countOf b 1)) where
+module _ (b : List ℕ) (n : ℕ) (L D K best W now : List ℕ) (c : Bool) (S : Settled L D best W now c (length L))
+    (F : Ready b) (s : length L ≡ countOf b 1) (d : Due b n L D) (N : Known b L K)
+    (G : Gathered b L K D best (countOf b 2)) (E : Exact b n L W) where
   abbrev step : ℕ → Truth → Truth
   step = next (rulesIn b) (levelsIn b) n (answersIn L) (unfounded (rulesIn b) (levelsIn b) n (answersIn L))
 
@@ -49,16 +51,21 @@ module _ (b : List ℕ) (n : ℕ) (L now : List ℕ) (c : Bool) (F : Ready b) (s
       (mapAt-length step 0 (answersIn L) ∙ many)
       (λ a l. sym (mapAt-at step Truth.undefined Truth.undefined (answersIn L) a (omega (arith, l, many)) ∙
       ap (step a) (at a l)))
-      (record { long = S .long; answers = S .answers })
+      (record {
+        long = S .long;
+        answers = λ a l. S .answers a (omega (arith, l, s)) ∙
+            next-is b n L D best W d (gathered-judged b L K D best F N G) E a l;
+      })
 
   same-round : c ≡ false → answersIn (take (countOf b 1) now) ≡ answersIn L
   same-round e =
       written-all (held L) now (countOf b 1) (answersIn L) (few b F) many (λ a l. sym (at a l))
-      (record { long = S .long; answers = S .same e })
+      (record { long = S .long; answers = λ a l. S .same e a (omega (arith, l, s)) })
 
   other-round : c ≡ true → answersIn (take (countOf b 1) now) ≡ answersIn L → ⊥
   other-round e q =
-      let (a, l, f) = S .differs e in
+      let (a, m, f) = S .differs e in
+      let l : a < countOf b 1 = omega (arith, m, s) in
       let z : length (take (countOf b 1) now) ≡ countOf b 1 =
       length-take-le (countOf b 1) now (omega (arith, few b F, S .long)) in
       f (ap truthOf (sym (getD-take (countOf b 1) now a 0 l)) ∙
@@ -87,21 +94,34 @@ module _ (b L : List ℕ) (F : Ready b) (s : length L ≡ countOf b 1) where
   pub lent-long : (W : List ℕ) → length W ≡ 2048 → length (take (length L) W) ≡ countOf b 1
   lent-long W l = sym (lent-count W l) ∙ s
 
-module _ (b : List ℕ) (n : ℕ) (L W Z : List ℕ) (E : Exact b n L W) where
+module _ (b L D W Z : List ℕ) (n : ℕ) (E : Ended b L D W) (d : Due b n L D) where
+  long : length W ≡ length L
+  long = E .exact n d .long
+
   front : take (length L) (W ++ Z) ≡ W
-  front = rw (← E .long) (take-append-seam W Z)
+  front = rw (← long) (take-append-seam W Z)
 
   pub back-exact : Exact b n L (take (length L) (W ++ Z))
-  back-exact = rw front E
+  back-exact = rw front (E .exact n d)
 
   pub back-within : length L ≤ length (W ++ Z)
-  back-within = omega (arith, E .long, length-append W Z)
+  back-within = omega (arith, long, length-append W Z)
 
   pub back-count : length L ≡ length (take (length L) (W ++ Z))
-  back-count = rw front (sym (E .long))
+  back-count = rw front (sym long)
+
+  pub back-long : length (take (length L) (W ++ Z)) ≡ length L
+  back-long = rw front long
+
+pub gathered-long : (b L K D best : List ℕ) (k : ℕ) → Gathered b L K D best k → length best ≡ 2048
+gathered-long b L K D best k G = G .long
+
+pub due-long : (b : List ℕ) (n : ℕ) (L D : List ℕ) → Due b n L D → length D ≡ 2048
+due-long b n L D d = d .long
 
 pub ruleset turn-round = (
-  gathered-judged,
+  gathered-long,
+  due-long,
   lent-room,
   lent-within,
   lent-count,
@@ -109,5 +129,6 @@ pub ruleset turn-round = (
   back-exact,
   back-within,
   back-count,
+  back-long,
   turned,
 )

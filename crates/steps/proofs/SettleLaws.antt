@@ -1,5 +1,5 @@
--- What a round writes at an atom is the model's next answer, and what the loop over the atoms has written so far.
--- Assumes nothing.
+-- What a round writes at an atom, what the loop over the atoms has written so far, and that it is the model's next
+-- answer. Assumes nothing.
 use mathlib.Core.Path.{_≡_, refl, sym, ap, _∙_, subst}
 use mathlib.Core.Logic.{by-cases, ⊎-elim}
 use mathlib.Core.Bool.{Bool, true, false, not, cond, _&&_, _||_, So, false≢true}
@@ -7,24 +7,23 @@ use mathlib.Core.List.{List}
 use Prim.Native.Nat.{ℕ, zero, suc, _+_, _<_, _≤_}
 use native.Mathlib.Decide.{decLt}
 use native.Mathlib.Omega.{arith}
-use lib.Dec.{eqb}
+use lib.Dec.{eqb, leb}
 use lib.ListN.{length, getD, length-replicate, length-set, replicate, set}
 use lib.Seq.{getD-set-other, getD-set-same}
-use borrow.Author.Tests.{eq-eqb, eqb-true, ne-eqb, not-false}
+use borrow.Author.Tests.{eq-eqb, eqb-true, le-leb, lt-leb, ne-eqb, not-false}
 use Rattle.laws.proofs.Tests.{and-none, by-test, either-fails, left, not-of, or-all, or-of}
 use Rattle.theory.specs.Truth.{Truth, isFalse, isTrue, isUndefined}
 use Rattle.theory.proofs.Truth.{undefined-of}
 use Rattle.meaning.specs.Format.{countOf}
-use Rattle.meaning.specs.Reading.{Reading, codeOf, isComplete, kindOf, truthOf}
+use Rattle.meaning.specs.Reading.{Reading, codeOf, truthOf}
 use Rattle.meaning.specs.Model.{decide, falls, membersOf, next, unfounded}
-use Rattle.book.specs.Records.{kindCode, kindRead, levelRead}
-use Rattle.book.proofs.AtomLaws.{kind-read}
-use Rattle.judge.proofs.CodeLaws.{code-back}
+use Rattle.book.specs.Records.{kindRead, levelRead}
+use Rattle.judge.proofs.CodeLaws.{code-back, code-itself}
 use Rattle.judge.specs.Held.{held}
-use Rattle.steps.specs.Work.{Exact, Ready, answersIn, levelsIn, rulesIn}
-use Rattle.steps.specs.Round.{Judged, Settled, nextTruth, pendingIn}
-use Rattle.steps.proofs.WorkLaws.{few}
-use Rattle.steps.proofs.GatherLaws.{undefined-code}
+use Rattle.steps.specs.Work.{Exact, answersIn, levelsIn, rulesIn}
+use Rattle.steps.specs.Due.{Due, dueIn, pendingIn, stepsOf}
+use Rattle.steps.specs.Round.{Judged, Settled, nextOf, nextTruth}
+use Rattle.steps.proofs.DueLaws.{steps-some, steps-two}
 
 -- what codes are not
 not-true-code : (x : ℕ) → (x ≡ 1 → ⊥) → isTrue (truthOf x) ≡ false
@@ -39,80 +38,116 @@ not-false-code (suc zero) n = refl
 not-false-code (suc (suc zero)) n = absurd (n refl)
 not-false-code (suc (suc (suc x))) n = refl
 
--- kinds 2 and 3 are complete or closed
-complete-code : (k : ℕ) → 2 ≤ k → isComplete (kindOf k) ≡ true
-complete-code zero l = absurd (omega (arith, l))
-complete-code (suc zero) l = absurd (omega (arith, l))
-complete-code (suc (suc zero)) l = refl
-complete-code (suc (suc (suc zero))) l = refl
-complete-code (suc (suc (suc (suc k)))) l = refl
-
-incomplete-code : (k : ℕ) → k < 2 → isComplete (kindOf k) ≡ false
-incomplete-code zero l = refl
-incomplete-code (suc zero) l = refl
-incomplete-code (suc (suc k)) l = absurd (omega (arith, l))
-
 -- the ways out of one atom's function
-module _ (b : List ℕ) (n a x best assumed : ℕ) where
+module _ (due x best assumed : ℕ) where
   abbrev pub nextCode : ℕ
-  nextCode = codeOf (nextTruth b n a (truthOf x) (truthOf best) (truthOf assumed))
+  nextCode = codeOf (nextTruth due (truthOf x) (truthOf best) (truthOf assumed))
 
-  pub next-true : x ≡ 1 → 1 ≡ nextCode
+  pub next-kept : due ≡ 0 → x < 3 → x ≡ nextCode
   unfolding nextTruth
-  next-true e = rw e
+  next-kept e l = rw e (code-itself x l)
 
-  pub next-false : x ≡ 2 → 2 ≡ nextCode
-  unfolding nextTruth
-  next-false e = rw e
-
-  module _ (l : ℕ) (m : x ≡ 1 → ⊥) (o : x ≡ 2 → ⊥) (q : l ≡ levelRead b a) where
-    pub next-other : (l ≡ n → ⊥) → 0 ≡ nextCode
+  module _ (n : due ≡ 0 → ⊥) where
+    -- the atom may be decided
+    on : nextTruth due (truthOf x) (truthOf best) (truthOf assumed) ≡
+        cond (isTrue (truthOf best)) Truth.true
+        (cond (leb 2 due && isFalse (truthOf best) || isFalse (truthOf assumed)) Truth.false Truth.undefined)
     unfolding nextTruth
-    next-other f = rw (undefined-code x m o, ne-eqb (levelRead b a) n (λ z. f (q ∙ z)))
+    on = rw (ne-eqb due 0 n)
 
-    module _ (e : l ≡ n) where
-      -- the atom is to be decided
-      on : nextTruth b n a (truthOf x) (truthOf best) (truthOf assumed) ≡
-          cond (isTrue (truthOf best)) Truth.true
-          (cond (isComplete (kindRead b a) && isFalse (truthOf best) || isFalse
-          (truthOf assumed)) Truth.false Truth.undefined)
-      unfolding nextTruth
-      on = rw (undefined-code x m o, eq-eqb (levelRead b a) n (sym q ∙ e))
+    pub next-rises : best ≡ 1 → 1 ≡ nextCode
+    next-rises f = rw (on, f)
 
-      pub next-rises : best ≡ 1 → 1 ≡ nextCode
-      next-rises f = rw (on, f)
+    pub next-assumed : (best ≡ 1 → ⊥) → assumed ≡ 2 → 2 ≡ nextCode
+    next-assumed f g = rw (on, not-true-code best f, g, or-all (leb 2 due && isFalse (truthOf best)))
 
-      pub next-assumed : (best ≡ 1 → ⊥) → assumed ≡ 2 → 2 ≡ nextCode
-      next-assumed f g =
-          rw (on, not-true-code best f, g, or-all (isComplete (kindRead b a) && isFalse (truthOf best)))
+    pub next-stays : (best ≡ 1 → ⊥) → (assumed ≡ 2 → ⊥) → (best ≡ 2 → ⊥) → 0 ≡ nextCode
+    next-stays f g h =
+        rw (on, not-true-code best f, not-false-code best h, not-false-code assumed g, and-none (leb 2 due))
 
-      pub next-stays : (best ≡ 1 → ⊥) → (assumed ≡ 2 → ⊥) → (best ≡ 2 → ⊥) → 0 ≡ nextCode
-      next-stays f g h =
-          rw (
-            on,
-            not-true-code best f,
-            not-false-code best h,
-            not-false-code assumed g,
-            and-none (isComplete (kindRead b a)),
-          )
+    pub next-refuted : (assumed ≡ 2 → ⊥) → best ≡ 2 → 2 ≤ due → 2 ≡ nextCode
+    next-refuted g h l = rw (on, h, not-false-code assumed g, le-leb 2 due l)
 
-      pub next-refuted : (k : ℕ) → (assumed ≡ 2 → ⊥) → best ≡ 2 → k ≡ kindCode b a → a < countOf b 1 → 2 ≤ k →
-          2 ≡ nextCode
-      next-refuted k g h p s t = rw (on, h, not-false-code assumed g, ← (kind-read b a s), ← p, complete-code k t)
+    pub next-open : (assumed ≡ 2 → ⊥) → best ≡ 2 → due < 2 → 0 ≡ nextCode
+    next-open g h l = rw (on, h, not-false-code assumed g, lt-leb 2 due l)
 
-      pub next-open : (k : ℕ) → (assumed ≡ 2 → ⊥) → best ≡ 2 → k ≡ kindCode b a → a < countOf b 1 → k < 2 → 0 ≡ nextCode
-      next-open k g h p s t = rw (on, h, not-false-code assumed g, ← (kind-read b a s), ← p, incomplete-code k t)
+pub ruleset decides = (next-kept, next-rises, next-assumed, next-stays, next-refuted, next-open)
 
-pub ruleset decides = (next-true, next-false, next-other, next-rises, next-assumed, next-stays, next-refuted, next-open)
+-- one atom more
+module _ (L D best W now : List ℕ) (c : Bool) (a x d y s v : ℕ) (S : Settled L D best W now c a) (l : a < 2048)
+    (ex : x ≡ codeOf (held L a)) (ed : d ≡ getD D a 0) (ey : y ≡ getD best a 0) (es : s ≡ codeOf (held W a))
+    (ev : v ≡ codeOf (nextTruth d (truthOf x) (truthOf y) (truthOf s))) where
+  was : truthOf x ≡ held L a
+  was = ap truthOf ex ∙ code-back (held L a)
+
+  is : v ≡ codeOf (nextOf L D best W a)
+  is = ev ∙ rw (was, ed, ey, (ap truthOf es ∙ code-back (held W a)))
+
+  new : truthOf (getD (set now a v) a 0) ≡ truthOf v
+  new = ap truthOf (getD-set-same now a v 0 (omega (arith, l, S .long)))
+
+  old : (j : ℕ) → j < a → getD (set now a v) j 0 ≡ getD now j 0
+  old j m = getD-set-other now a j v 0 (λ z. omega (arith, m, z))
+
+  -- at the new atom, or at one before it
+  each : (P : ℕ → Type 0) → P a → ((j : ℕ) → j < a → P j) → (j : ℕ) → j < a + 1 → P j
+  each P p h j m = by-cases (decLt j a) (h j) (λ o. let e : a ≡ j = omega (arith, m, o) in subst P e p)
+
+  pub settled-more : (e : Bool) (X : List ℕ) → e ≡ (c || not (eqb v x)) → X ≡ set now a v →
+      Settled L D best W X e (a + 1)
+  settled-more e X ee eX = rw eX (record {
+    long = length-set now a v ∙ S .long;
+    answers = each (λ j. truthOf (getD (set now a v) j 0) ≡ nextOf L D best W j)
+        (new ∙ ap truthOf is ∙ code-back (nextOf L D best W a))
+        (λ j m. ap truthOf (old j m) ∙ S .answers j m);
+    same = λ f. let (fc, fn) = either-fails c (not (eqb v x)) (sym ee ∙ f) in
+        each (λ j. truthOf (getD (set now a v) j 0) ≡ held L j)
+        (new ∙ ap truthOf (eqb-true v x (not-false (eqb v x) fn)) ∙ was)
+        (λ j m. ap truthOf (old j m) ∙ S .same fc j m);
+    differs = λ t. ⊎-elim
+        (λ tc. let (j, m, f) = S .differs tc in (j, omega (arith, m), λ z. f (ap truthOf (sym (old j m)) ∙ z)))
+        (λ tn. (a, omega arith, λ z. not-of (eqb v x) tn (eq-eqb v x (is ∙ ap codeOf (sym (settle z)) ∙ sym ex))))
+        (or-of c (not (eqb v x)) (sym ee ∙ t));
+  })
+    where
+      settle : truthOf (getD (set now a v) a 0) ≡ held L a → held L a ≡ nextOf L D best W a
+      settle z = sym z ∙ new ∙ ap truthOf is ∙ code-back (nextOf L D best W a)
+
+pub settled-none : (L D best W : List ℕ) → Settled L D best W (replicate 2048 0) false 0
+settled-none L D best W = record {
+  long = length-replicate {A = ℕ} 2048 0;
+  answers = λ a l. absurd (omega (arith, l));
+  same = λ _ a l. absurd (omega (arith, l));
+  differs = λ e. absurd (false≢true e);
+}
+
+pub settled-all : (L D best W now : List ℕ) (c : Bool) (a : ℕ) → a ≤ length L → length L ≤ a →
+    Settled L D best W now c a → Settled L D best W now c (length L)
+settled-all L D best W now c a l o S = let q : a ≡ length L = omega (arith, l, o) in rw (← q) S
+
+-- where the arrays and slices are read and written
+module _ (L : List ℕ) (a : ℕ) (l : a < length L) where
+  pub atom-small : length L ≤ 2048 → a < 2048
+  atom-small m = omega (arith, l, m)
+
+  pub atom-there : (X : List ℕ) → length X ≡ 2048 → length L ≤ 2048 → a < length X
+  atom-there X e m = omega (arith, e, l, m)
+
+  pub assumed-there : (W : List ℕ) → length W ≡ length L → a < length W
+  assumed-there W e = omega (arith, e, l)
+
+pub answer-small : (L : List ℕ) (a x : ℕ) → x ≡ codeOf (held L a) → x < 3
+answer-small L a x e = rw e (small (held L a))
+  where
+    small : (t : Truth) → codeOf t < 3
+    small Truth.undefined = omega arith
+    small Truth.true = omega arith
+    small Truth.false = omega arith
+
+pub ruleset settling = (settled-none, settled-all, atom-small, atom-there, assumed-there, answer-small)
 
 -- with all rules gathered and the unfounded set counted false, it is the model's next answer
-module _ (b : List ℕ) (n : ℕ) (L best W : List ℕ) (J : Judged b n L best) (E : Exact b n L W) where
-  abbrev R : Reading
-  R = rulesIn b
-
-  abbrev A : List Truth
-  A = answersIn L
-
+module _ (b : List ℕ) (n : ℕ) (L D best W : List ℕ) (d : Due b n L D) (J : Judged b L D best) (E : Exact b n L W) where
   abbrev U : List Bool
   U = unfounded (rulesIn b) (levelsIn b) n (answersIn L)
 
@@ -120,91 +155,29 @@ module _ (b : List ℕ) (n : ℕ) (L best W : List ℕ) (J : Judged b n L best) 
   false-wiped true x e = refl
   false-wiped false x e = rw e
 
-  next-is : (a : ℕ) → a < countOf b 1 →
-      nextTruth b n a (held L a) (truthOf (getD best a 0)) (held W a) ≡ next R (levelsIn b) n A U a (held L a)
+  -- the steps due to an atom that is pending, and to another
+  due-to : (a : ℕ) → a < countOf b 1 → So (pendingIn b n L a) → getD D a 0 ≡ stepsOf (kindRead b a)
+  unfolding dueIn
+  due-to a l t = d .steps a l ∙ rw t
+
+  due-not : (a : ℕ) → a < countOf b 1 → pendingIn b n L a ≡ false → getD D a 0 ≡ 0
+  unfolding dueIn
+  due-not a l f = d .steps a l ∙ rw f
+
+  pub next-is : (a : ℕ) → a < countOf b 1 →
+      nextOf L D best W a ≡ next (rulesIn b) (levelsIn b) n (answersIn L) U a (held L a)
   unfolding nextTruth next decide falls
   next-is a l =
       by-test (isUndefined (held L a) && eqb (levelRead b a) n)
       (λ t.
       let p : So (pendingIn b n L a) = unfold pendingIn in t in
+      let k = kindRead b a in
+      let e : getD D a 0 ≡ stepsOf k = due-to a l p in
+      let some : getD D a 0 ≡ 0 → ⊥ = λ z. false≢true (sym (steps-some k) ∙ ap (λ (i : ℕ). eqb i 0) (sym e ∙ z)) in
       let u : held L a ≡ Truth.undefined = undefined-of (held L a) (left (isUndefined (held L a)) _ t) in
       let f : isFalse (held W a) ≡ membersOf U a = ap isFalse (E .counted a) ∙ false-wiped (membersOf U a)
       (held L a) u in
-      rw (t, J .rises a l p, J .sinks a l p, f))
-      (λ f. rw f)
-
-  -- one atom more
-  module _ (F : Ready b) (now : List ℕ) (c : Bool) (a x y s v : ℕ) (S : Settled b n L now c a) (l : a < countOf b 1)
-      (ex : x ≡ codeOf (held L a)) (ey : y ≡ getD best a 0) (es : s ≡ codeOf (held W a))
-      (ev : v ≡ codeOf (nextTruth b n a (truthOf x) (truthOf y) (truthOf s))) where
-    was : truthOf x ≡ held L a
-    was = ap truthOf ex ∙ code-back (held L a)
-
-    is : v ≡ codeOf (next R (levelsIn b) n A U a (held L a))
-    is =
-        ev ∙ rw (was, ey, (ap truthOf es ∙ code-back (held W a)))
-        (ap codeOf (next-is a l))
-
-    fits : a < length now
-    fits = omega (arith, l, few b F, S .long)
-
-    new : truthOf (getD (set now a v) a 0) ≡ truthOf v
-    new = ap truthOf (getD-set-same now a v 0 fits)
-
-    old : (j : ℕ) → j < a → getD (set now a v) j 0 ≡ getD now j 0
-    old j m = getD-set-other now a j v 0 (λ z. omega (arith, m, z))
-
-    -- at the new atom, or at one before it
-    each : (P : ℕ → Type 0) → P a → ((j : ℕ) → j < a → P j) → (j : ℕ) → j < a + 1 → P j
-    each P p h j m = by-cases (decLt j a) (h j) (λ o. let e : a ≡ j = omega (arith, m, o) in subst P e p)
-
-    pub settled-more : (d : Bool) (X : List ℕ) → d ≡ (c || not (eqb v x)) → X ≡ set now a v →
-        Settled b n L X d (a + 1)
-    settled-more d X ed eX = rw eX (record {
-      long = length-set now a v ∙ S .long;
-      answers = each (λ j. truthOf (getD (set now a v) j 0) ≡ next R (levelsIn b) n A U j (held L j))
-          (new ∙ ap truthOf is ∙ code-back (next R (levelsIn b) n A U a (held L a)))
-          (λ j m. ap truthOf (old j m) ∙ S .answers j m);
-      same = λ f. let (fc, fn) = either-fails c (not (eqb v x)) (sym ed ∙ f) in
-          each (λ j. truthOf (getD (set now a v) j 0) ≡ held L j)
-          (new ∙ ap truthOf (eqb-true v x (not-false (eqb v x) fn)) ∙ was)
-          (λ j m. ap truthOf (old j m) ∙ S .same fc j m);
-      differs = λ t. ⊎-elim
-          (λ tc. let (j, m, f) = S .differs tc in (j, omega (arith, m), λ z. f (ap truthOf (sym (old j m)) ∙ z)))
-          (λ tn. (a, omega arith, λ z. not-of (eqb v x) tn (eq-eqb v x (is ∙ ap codeOf (sym (settle z)) ∙ sym ex))))
-          (or-of c (not (eqb v x)) (sym ed ∙ t));
-    })
-      where
-        settle : truthOf (getD (set now a v) a 0) ≡ held L a → held L a ≡ next R (levelsIn b) n A U a (held L a)
-        settle z = sym z ∙ new ∙ ap truthOf is ∙ code-back (next R (levelsIn b) n A U a (held L a))
-
-pub settled-none : (b : List ℕ) (n : ℕ) (L : List ℕ) → Settled b n L (replicate 2048 0) false 0
-settled-none b n L = record {
-  long = length-replicate {A = ℕ} 2048 0;
-  answers = λ a l. absurd (omega (arith, l));
-  same = λ _ a l. absurd (omega (arith, l));
-  differs = λ e. absurd (false≢true e);
-}
-
-pub settled-all : (b : List ℕ) (n : ℕ) (L now : List ℕ) (c : Bool) (a m : ℕ) → m ≡ countOf b 1 → a ≤ m → m ≤ a →
-    Settled b n L now c a → Settled b n L now c (countOf b 1)
-settled-all b n L now c a m e l o S = let q : a ≡ countOf b 1 = omega (arith, e, l, o) in rw (← q) S
-
--- where the arrays and slices are read and written
-pub atom-small : (b : List ℕ) (a m : ℕ) → Ready b → m ≡ countOf b 1 → a < m → a < 2048
-atom-small b a m F e l = omega (arith, few b F, e, l)
-
-pub atom-there : (b L : List ℕ) (a m : ℕ) → length L ≡ countOf b 1 → m ≡ countOf b 1 → a < m → a < length L
-atom-there b L a m e q l = omega (arith, e, q, l)
-
-pub best-there : (b : List ℕ) (n : ℕ) (L best : List ℕ) (a m : ℕ) → Ready b → Judged b n L best → m ≡ countOf b 1 →
-    a < m →
-    a < length best
-best-there b n L best a m F J e l = omega (arith, few b F, J .long, e, l)
-
-pub assumed-there : (b : List ℕ) (n : ℕ) (L W : List ℕ) (a m : ℕ) → length L ≡ countOf b 1 → Exact b n L W →
-    m ≡ countOf b 1 →
-    a < m → a < length W
-assumed-there b n L W a m e E q l = omega (arith, E .long, e, q, l)
-
-pub ruleset settling = (settled-none, settled-all, atom-small, atom-there, best-there, assumed-there)
+      rw (J .rises a l some, J .sinks a l some, f, e, steps-some k, steps-two k, t))
+      (λ f.
+      let p : pendingIn b n L a ≡ false = unfold pendingIn in f in
+      rw (due-not a l p, f))

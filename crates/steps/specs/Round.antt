@@ -1,22 +1,18 @@
 -- What the loops of a round gather, for each atom still to be decided the truth of the rules that conclude it, and
 -- what the round leaves. Assumes nothing.
 use mathlib.Core.Path.{_≡_}
-use mathlib.Core.Bool.{Bool, true, false, cond, _&&_, _||_, So}
+use mathlib.Core.Bool.{Bool, true, false, cond, _&&_, _||_}
 use mathlib.Core.List.{List}
 use Prim.Native.Nat.{ℕ, zero, suc, _<_}
-use lib.Dec.{eqb}
+use lib.Dec.{eqb, leb}
 use lib.ListN.{length, getD, take}
-use Rattle.theory.specs.Truth.{Truth, isFalse, isTrue, isUndefined}
+use Rattle.theory.specs.Truth.{Truth, isFalse, isTrue}
 use Rattle.meaning.specs.Format.{countOf}
-use Rattle.meaning.specs.Reading.{isComplete, truthOf}
-use Rattle.meaning.specs.Model.{answersOf, derived, next, refuted, round, unfounded}
-use Rattle.book.specs.Records.{kindRead, levelRead, ruleIn}
+use Rattle.meaning.specs.Reading.{truthOf}
+use Rattle.meaning.specs.Model.{answersOf, derived, refuted, round}
+use Rattle.book.specs.Records.{ruleIn}
 use Rattle.judge.specs.Held.{held, recordsTruth, ruleRecords}
 use Rattle.steps.specs.Work.{answersIn, levelsIn, rulesIn}
-
--- atom a is undefined, and of level n
-unfoldable pub pendingIn : List ℕ → ℕ → List ℕ → ℕ → Bool
-pendingIn b n L a = isUndefined (held L a) && eqb (levelRead b a) n
 
 -- one of two is true, or both are false
 abbrev pub join : Truth → Truth → Truth
@@ -34,33 +30,34 @@ headTruth b L K a zero = Truth.false
 headTruth b L K a (suc k) =
     cond (eqb (ruleIn b k .head) a) (join (headTruth b L K a k) (bodyIn b L K k)) (headTruth b L K a k)
 
--- what has been gathered from the first k rules
-pub record Gathered (b : List ℕ) (n : ℕ) (L K best : List ℕ) (k : ℕ) : Type 0 where
+-- what has been gathered from the first k rules for the atoms to which a step is due
+pub record Gathered (b L K D best : List ℕ) (k : ℕ) : Type 0 where
   pub long : length best ≡ 2048
-  pub truths : (a : ℕ) → a < countOf b 1 → So (pendingIn b n L a) → truthOf (getD best a 0) ≡ headTruth b L K a k
+  pub truths : (a : ℕ) → a < countOf b 1 → (getD D a 0 ≡ 0 → ⊥) → truthOf (getD best a 0) ≡ headTruth b L K a k
 
 -- the same for all rules, in the words of steps (a) and (b)
-pub record Judged (b : List ℕ) (n : ℕ) (L best : List ℕ) : Type 0 where
-  pub long : length best ≡ 2048
-  pub rises : (a : ℕ) → a < countOf b 1 → So (pendingIn b n L a) →
+pub record Judged (b L D best : List ℕ) : Type 0 where
+  pub rises : (a : ℕ) → a < countOf b 1 → (getD D a 0 ≡ 0 → ⊥) →
       isTrue (truthOf (getD best a 0)) ≡ derived (rulesIn b) (answersOf (answersIn L)) a
-  pub sinks : (a : ℕ) → a < countOf b 1 → So (pendingIn b n L a) →
+  pub sinks : (a : ℕ) → a < countOf b 1 → (getD D a 0 ≡ 0 → ⊥) →
       isFalse (truthOf (getD best a 0)) ≡ refuted (rulesIn b) (answersOf (answersIn L)) a
 
--- what an atom gets: x its answer, best the truth of its rules, assumed its answer once the unfounded set counts as
--- false
-unfoldable pub nextTruth : List ℕ → ℕ → ℕ → Truth → Truth → Truth → Truth
-nextTruth b n a x best assumed =
-    cond (isUndefined x && eqb (levelRead b a) n)
+-- what an atom gets: due the number of steps that may decide it, x its answer, best the truth of its rules, assumed
+-- its answer once the unfounded set counts as false
+unfoldable pub nextTruth : ℕ → Truth → Truth → Truth → Truth
+nextTruth due x best assumed =
+    cond (eqb due 0) x
     (cond (isTrue best) Truth.true
-    (cond (isComplete (kindRead b a) && isFalse best || isFalse assumed) Truth.false Truth.undefined))
-    x
+    (cond (leb 2 due && isFalse best || isFalse assumed) Truth.false Truth.undefined))
 
--- the round's answers at the first i atoms, and whether one of them differs from before
-pub record Settled (b : List ℕ) (n : ℕ) (L now : List ℕ) (changed : Bool) (i : ℕ) : Type 0 where
+-- what it gets from these lists
+abbrev pub nextOf : List ℕ → List ℕ → List ℕ → List ℕ → ℕ → Truth
+nextOf L D best W a = nextTruth (getD D a 0) (held L a) (truthOf (getD best a 0)) (held W a)
+
+-- the next answers of the first i atoms, and whether one of them differs from before
+pub record Settled (L D best W now : List ℕ) (changed : Bool) (i : ℕ) : Type 0 where
   pub long : length now ≡ 2048
-  pub answers : (a : ℕ) → a < i → truthOf (getD now a 0) ≡
-      next (rulesIn b) (levelsIn b) n (answersIn L) (unfounded (rulesIn b) (levelsIn b) n (answersIn L)) a (held L a)
+  pub answers : (a : ℕ) → a < i → truthOf (getD now a 0) ≡ nextOf L D best W a
   pub same : changed ≡ false → (a : ℕ) → a < i → truthOf (getD now a 0) ≡ held L a
   pub differs : changed ≡ true → (a : ℕ) × (a < i) × (truthOf (getD now a 0) ≡ held L a → ⊥)
 

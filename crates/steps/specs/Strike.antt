@@ -1,9 +1,10 @@
 -- Step (c) by striking out: the answers with some of the level's candidates counted as false, and when a rule takes
 -- one of them back. Assumes nothing.
 use mathlib.Core.Path.{_≡_}
-use mathlib.Core.Bool.{Bool, So, not, _&&_}
+use mathlib.Core.Bool.{Bool, So, cond, not, _&&_}
 use mathlib.Core.List.{List}
 use Prim.Native.Nat.{ℕ, _<_}
+use lib.Dec.{eqb}
 use lib.ListN.{length, getD}
 use Rattle.laws.proofs.Counting.{number}
 use Rattle.theory.specs.Truth.{Truth, isFalse, isUndefined}
@@ -16,6 +17,7 @@ use Rattle.meaning.specs.Founded.{Unfounded}
 use Rattle.book.specs.Records.{comparisonRead, hypothesisIn, ruleIn, ruleRead}
 use Rattle.judge.specs.Held.{held, recordTruth}
 use Rattle.steps.specs.Work.{Exact, levelsIn, rulesIn}
+use Rattle.steps.specs.Due.{Due}
 
 -- the candidates of level n at the answers L: closed, of the level and not true
 unfoldable pub candidateIn : List ℕ → ℕ → List ℕ → Atoms
@@ -28,6 +30,11 @@ pub record Assumed (b : List ℕ) (n : ℕ) (L W : List ℕ) : Type 0 where
   pub counted : (a : ℕ) → held W a ≡ wipe chosen (held L) a
   pub candidates : (a : ℕ) → So (chosen a) → So (candidateIn b n L a)
   pub every : (U : Atoms) → Unfounded (rulesIn b) (levelsIn b) n U (held L) → (a : ℕ) → So (U a) → So (chosen a)
+
+-- W is L with the atoms counted as false to which all three steps are due
+pub record Counted (L D W : List ℕ) : Type 0 where
+  pub long : length W ≡ length L
+  pub at : (a : ℕ) → a < length L → held W a ≡ cond (eqb (getD D a 0) 3) Truth.false (held L a)
 
 -- an atom that is undefined at L and false at W
 abbrev pub onlyAssumed : List ℕ → List ℕ → ℕ → Bool
@@ -58,6 +65,13 @@ falses W = number (λ x. isFalse (truthOf x)) W
 pub record Follows (b L B W : List ℕ) : Type 0 where
   pub less : held W ⊑ held B
   pub keeps : (n : ℕ) → Assumed b n L B → Assumed b n L W
+
+-- what step (c) assumes before it has ended, and at its end, at the level whose steps are due
+pub record Stands (b L D W : List ℕ) : Type 0 where
+  pub assumed : (n : ℕ) → Due b n L D → Assumed b n L W
+
+pub record Ended (b L D W : List ℕ) : Type 0 where
+  pub exact : (n : ℕ) → Due b n L D → Exact b n L W
 
 -- W after a whole pass from B: if that struck nothing out, nothing is left to strike
 pub record Ends (b L B W : List ℕ) (struck : ℕ) : Type 0 where

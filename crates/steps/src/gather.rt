@@ -1,27 +1,14 @@
-// Steps (a) and (b): for each atom that a level has still to decide, the truth of the rules that conclude it.
+// Steps (a) and (b): for each atom that a round may decide, the truth of the rules that conclude it.
 ghost use mathlib.Core.Path.{_≡_};
-ghost use Prim.Native.Nat.{_<_, _≤_};
+ghost use Prim.Native.Nat.{_≤_};
 ghost use lib.ListN.{length};
 ghost use Rattle.meaning.specs.Format.{countOf};
-ghost use Rattle.meaning.specs.Reading.{codeOf, truthOf};
+ghost use Rattle.meaning.specs.Reading.{truthOf};
 ghost use Rattle.steps.specs.Work.{Ready};
-ghost use Rattle.steps.specs.Round.{Gathered, join, pendingIn};
-use book::atoms::level_of;
+ghost use Rattle.steps.specs.Round.{Gathered, join};
 use book::fields::rule_head;
 use book::readers::count_of;
 use judge::body::body;
-use judge::literal::answer;
-
-// Is the atom undefined, and of the level?
-pub fn pending(book: &[u8], answers: &[u8], level: usize, a: usize) -> bool
-    requires { ⌜ Ready (now book) × (length (now answers) ≡ countOf (now book) 1) × (a < countOf (now book) 1) ⌝ }
-    ensures { λ r. ⌜ r ≡ pendingIn (now (book .entry)) level (now (answers .entry)) a ⌝ }
-{
-    if answer(answers, a) != 0 {
-        return false;
-    }
-    level_of(book, a) == level
-}
 
 // One more body: true if one is true, false if both are false.
 fn joined(best: u8, body: u8) -> u8
@@ -34,12 +21,12 @@ fn joined(best: u8, body: u8) -> u8
     }
 }
 
-// All rules once: 2 where every body is false, 1 where one is true, else 0. Atoms that are not to be decided are
-// passed over.
-pub fn gather(book: &[u8], answers: &[u8], known: &[u8], level: usize) -> [u8; 2048]
+// All rules once: 2 where every body is false, 1 where one is true, else 0. Atoms to which no step is due are passed
+// over.
+pub fn gather(book: &[u8], answers: &[u8], known: &[u8], due: &[u8]) -> [u8; 2048]
     requires { ⌜ Ready (now book) × (length (now answers) ≡ countOf (now book) 1)
-        × (countOf (now book) 4 ≤ length (now known)) ⌝ }
-    ensures { λ r. ⌜ Gathered (now (book .entry)) level (now (answers .entry)) (now (known .entry)) r
+        × (countOf (now book) 4 ≤ length (now known)) × (length (now due) ≡ 2048) ⌝ }
+    ensures { λ r. ⌜ Gathered (now (book .entry)) (now (answers .entry)) (now (known .entry)) (now (due .entry)) r
         (countOf (now (book .entry)) 2) ⌝ }
 {
     let m = count_of(book, 2);
@@ -49,7 +36,7 @@ pub fn gather(book: &[u8], answers: &[u8], known: &[u8], level: usize) -> [u8; 2
         let r = k;
         k += 1;
         let h = rule_head(book, r);
-        if pending(book, answers, level, h) {
+        if due[h] != 0 {
             best[h] = joined(best[h], body(book, answers, known, r));
         }
     }

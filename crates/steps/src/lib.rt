@@ -1,4 +1,5 @@
 // The three steps of a level, and the round that takes them all at once.
+pub mod due;
 pub mod fails;
 pub mod gather;
 pub mod round;

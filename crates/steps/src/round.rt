@@ -4,6 +4,7 @@ ghost use lib.ListN.{length};
 ghost use Rattle.meaning.specs.Format.{countOf};
 ghost use Rattle.steps.specs.Work.{Ready};
 ghost use Rattle.steps.specs.Round.{Turn};
+use crate::due::due;
 use crate::gather::gather;
 use crate::settle::settle;
 use crate::strike::unfounded;
@@ -22,11 +23,12 @@ pub fn round(book: &[u8], level: usize, before: &[u8], order: &mut [u16], used: 
     ensures { λ r. ⌜ Turn (now (book .entry)) level (now (before .entry)) (r .answers) (r .changed) ⌝ }
 {
     let n = before.len();
+    let due = due(book, before, level);
     let known = truths(book, before);
-    let best = gather(book, before, &known, level);
+    let best = gather(book, before, &known, &due);
     let mut assumed = [0u8; 2048];
-    let end = unfounded(book, before, level, &mut assumed[..n], order, used);
-    let settled = settle(book, before, level, &best, &assumed[..n]);
+    let end = unfounded(book, before, &due, &mut assumed[..n], order, used);
+    let settled = settle(before, &due, &best, &assumed[..n]);
     let answers = settled.answers;
     let changed = settled.changed;
     Turned {

@@ -1,30 +1,19 @@
 // What a round writes: all three steps at once, from the answers before it.
 ghost use mathlib.Core.Path.{_≡_};
-ghost use Prim.Native.Nat.{_<_};
+ghost use Prim.Native.Nat.{_<_, _≤_};
 ghost use lib.ListN.{length};
-ghost use Rattle.meaning.specs.Format.{countOf};
 ghost use Rattle.meaning.specs.Reading.{codeOf, truthOf};
-ghost use Rattle.steps.specs.Work.{Exact, Ready};
-ghost use Rattle.steps.specs.Round.{Judged, Settled, nextTruth};
-use book::atoms::kind_of;
-use book::atoms::level_of;
-use book::readers::count_of;
+ghost use Rattle.steps.specs.Round.{Settled, nextTruth};
 use judge::literal::answer;
 use judge::literal::set_answer;
 
-// One atom: decided answers stay, and so do those of another level.
-fn next_answer(book: &[u8], level: usize, a: usize, x: u8, best: u8, assumed: u8) -> u8
-    requires { ⌜ Ready (now book) × (a < countOf (now book) 1) ⌝ }
-    ensures { λ r. ⌜ r ≡ codeOf (nextTruth (now (book .entry)) level a (truthOf x) (truthOf best) (truthOf assumed)) ⌝ }
+// One atom: its answer stays where no step is due.
+fn next_answer(due: u8, x: u8, best: u8, assumed: u8) -> u8
+    requires { ⌜ x < 3 ⌝ }
+    ensures { λ r. ⌜ r ≡ codeOf (nextTruth due (truthOf x) (truthOf best) (truthOf assumed)) ⌝ }
 {
-    if x == 1 {
-        return 1;
-    }
-    if x == 2 {
-        return 2;
-    }
-    if level_of(book, a) != level {
-        return 0;
+    if due == 0 {
+        return x;
     }
     if best == 1 {
         return 1;
@@ -35,7 +24,7 @@ fn next_answer(book: &[u8], level: usize, a: usize, x: u8, best: u8, assumed: u8
     if best != 2 {
         return 0;
     }
-    if 2 <= kind_of(book, a) {
+    if 2 <= due {
         return 2;
     }
     0
@@ -48,19 +37,19 @@ pub struct Settling {
 }
 
 // All atoms.
-pub fn settle(book: &[u8], answers: &[u8], level: usize, best: &[u8], assumed: &[u8]) -> Settling
-    requires { ⌜ Ready (now book) × (length (now answers) ≡ countOf (now book) 1)
-        × Judged (now book) level (now answers) (now best) × Exact (now book) level (now answers) (now assumed) ⌝ }
-    ensures { λ r. ⌜ Settled (now (book .entry)) level (now (answers .entry)) (r .answers) (r .changed)
-        (countOf (now (book .entry)) 1) ⌝ }
+pub fn settle(answers: &[u8], due: &[u8], best: &[u8], assumed: &[u8]) -> Settling
+    requires { ⌜ (length (now answers) ≤ 2048) × (length (now due) ≡ 2048) × (length (now best) ≡ 2048)
+        × (length (now assumed) ≡ length (now answers)) ⌝ }
+    ensures { λ r. ⌜ Settled (now (answers .entry)) (now (due .entry)) (now (best .entry)) (now (assumed .entry))
+        (r .answers) (r .changed) (length (now (answers .entry))) ⌝ }
 {
-    let n = count_of(book, 1);
+    let n = answers.len();
     let mut now = [0u8; 2048];
     let mut changed = false;
     let mut a = 0;
     while a < n {
         let x = answer(answers, a);
-        let v = next_answer(book, level, a, x, best[a], answer(assumed, a));
+        let v = next_answer(due[a], x, best[a], answer(assumed, a));
         set_answer(&mut now, a, v);
         changed = changed | (v != x);
         a += 1;

@@ -3,19 +3,18 @@
 // The rules that struck are remembered in their order, so that later passes are short. Any content of that order is
 // right: no answer depends on it.
 ghost use mathlib.Core.Path.{_≡_};
+ghost use mathlib.Core.Bool.{cond};
 ghost use Prim.Native.Nat.{_+_, _<_, _≤_};
+ghost use lib.Dec.{eqb};
 ghost use lib.ListN.{length, set};
 ghost use Rattle.laws.specs.Lists.{anyTo};
-ghost use Rattle.theory.specs.Answers.{wipe};
+ghost use Rattle.theory.specs.Truth.{Truth};
 ghost use Rattle.meaning.specs.Format.{countOf};
-ghost use Rattle.meaning.specs.Reading.{codeOf};
+ghost use Rattle.meaning.specs.Reading.{codeOf, truthOf};
 ghost use Rattle.book.specs.Records.{ruleIn};
-ghost use Rattle.judge.specs.Held.{held};
-ghost use Rattle.steps.specs.Work.{Exact, Ready};
-ghost use Rattle.steps.specs.Strike.{Assumed, Ends, Follows, Lags, candidateIn, falses, onlyAssumed, strikesAt};
+ghost use Rattle.steps.specs.Work.{Ready};
+ghost use Rattle.steps.specs.Strike.{Counted, Ended, Ends, Follows, Lags, falses, onlyAssumed, strikesAt};
 use crate::fails::supports;
-use book::atoms::kind_of;
-use book::atoms::level_of;
 use book::fields::rule_head;
 use book::readers::count_of;
 use book::readers::short;
@@ -28,37 +27,32 @@ pub struct Struck {
     pub struck: usize,
 }
 
-// False at a candidate: a closed atom of the level that isn't true.
-fn assumed_at(book: &[u8], answers: &[u8], level: usize, a: usize) -> u8
-    requires { ⌜ Ready (now book) × (length (now answers) ≡ countOf (now book) 1) × (a < countOf (now book) 1) ⌝ }
-    ensures { λ r. ⌜ r ≡ codeOf
-        (wipe (candidateIn (now (book .entry)) level (now (answers .entry))) (held (now (answers .entry))) a) ⌝ }
+// An atom to which all three steps are due counts as false.
+fn counted(due: u8, x: u8) -> u8
+    requires { ⌜ x < 3 ⌝ }
+    ensures { λ r. ⌜ r ≡ codeOf (cond (eqb due 3) Truth.false (truthOf x)) ⌝ }
 {
-    let x = answer(answers, a);
-    if x == 1 {
-        return x;
-    }
-    if level_of(book, a) != level {
-        return x;
-    }
-    if kind_of(book, a) < 3 {
-        return x;
-    }
-    2
+    if due == 3 { 2 } else { x }
 }
 
-// All candidates counted as false.
-fn assume(book: &[u8], answers: &[u8], level: usize, assumed: &mut [u8])
-    requires { ⌜ Ready (now book) × (length (now answers) ≡ countOf (now book) 1)
-        × (length (now assumed) ≡ countOf (now book) 1) ⌝ }
-    ensures { λ r. ⌜ Assumed (now (book .entry)) level (now (answers .entry)) (now (assumed .exit)) ⌝ }
+// All candidates counted as false: the atoms to which all three steps are due. Is there one that is not false already?
+fn assume(answers: &[u8], due: &[u8], assumed: &mut [u8]) -> bool
+    requires { ⌜ (length (now assumed) ≡ length (now answers)) × (length (now answers) ≤ length (now due)) ⌝ }
+    ensures counts { λ r. ⌜ Counted (now (answers .entry)) (now (due .entry)) (now (assumed .exit)) ⌝ }
+    ensures waits { λ r. ⌜ r ≡ anyTo (onlyAssumed (now (answers .entry)) (now (assumed .exit)))
+        (length (now (answers .entry))) ⌝ }
 {
     let n = answers.len();
+    let mut some = false;
     let mut a = 0;
     while a < n {
-        set_answer(assumed, a, assumed_at(book, answers, level, a));
+        let x = answer(answers, a);
+        let v = counted(due[a], x);
+        set_answer(assumed, a, v);
+        some = some | ((v == 2) & (x == 0));
         a += 1;
     }
+    some
 }
 
 // Does rule r support a head that is undefined and only assumed false?
@@ -191,23 +185,24 @@ fn turn(book: &[u8], answers: &[u8], assumed: &mut [u8], order: &mut [u16], used
 pub fn unfounded(
     book: &[u8],
     answers: &[u8],
-    level: usize,
+    due: &[u8],
     assumed: &mut [u8],
     order: &mut [u16],
     used: usize,
 ) -> usize
     requires { ⌜ Ready (now book) × (length (now answers) ≡ countOf (now book) 1)
-        × (length (now assumed) ≡ countOf (now book) 1) ⌝ }
-    ensures { λ r. ⌜ Exact (now (book .entry)) level (now (answers .entry)) (now (assumed .exit)) ⌝ }
+        × (length (now assumed) ≡ countOf (now book) 1) × (length (now due) ≡ 2048) ⌝ }
+    ensures { λ r. ⌜ Ended (now (book .entry)) (now (answers .entry)) (now (due .entry)) (now (assumed .exit)) ⌝ }
 {
-    assume(book, answers, level, assumed);
     let mut end = used;
-    while waiting(answers, assumed) {
+    let mut more = assume(answers, due, assumed);
+    while more {
         let s = turn(book, answers, assumed, order, end);
         end = s.used;
         if s.struck == 0 {
             break;
         }
+        more = waiting(answers, assumed);
     }
     end
 }

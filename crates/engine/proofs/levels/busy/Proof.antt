@@ -5,7 +5,7 @@ use mathlib.Core.Bool.{false}
 use borrow.Author.Needs.{needs}
 use Rattle.laws.specs.Lists.{anyTo}
 use Rattle.laws.proofs.Numbers.{looking}
-use Rattle.steps.specs.Round.{pendingIn}
+use Rattle.steps.specs.Due.{pendingIn}
 use Rattle.engine.proofs.levels.busy.Statement.{statement}
 use Rattle.engine.proofs.levels.busy.Tie as tie
 

@@ -1,4 +1,4 @@
--- `gather::gather` meets its contract: what the rules passed so far say of each atom still to be decided. Assumes
+-- `gather::gather` meets its contract: what the rules passed so far say of each atom that may be decided. Assumes
 -- nothing.
 use Prim.Native.Nat.{_-_, _≤_}
 use borrow.Author.Needs.{needs}
@@ -8,16 +8,16 @@ use Rattle.steps.proofs.gather.gather.Statement.{statement}
 use Rattle.steps.proofs.gather.gather.Tie as tie
 
 abbrev Inv-loop : tie.InvT-loop
-Inv-loop book answers known level m best₀ k₀ best k = (k ≤ m) × Gathered book level answers known best k
+Inv-loop book answers known due m best₀ k₀ best k = (k ≤ m) × Gathered book answers known due best k
 
 abbrev μ-loop : tie.MeasureT-loop
-μ-loop book answers known level m best₀ k₀ best k = m - k
+μ-loop book answers known due m best₀ k₀ best k = m - k
 
 pub gather-spec : {M : Type 1} → statement M
 gather-spec =
     tie.close
     (tie.spec Inv-loop μ-loop (λ c κs. search needs) (λ c. search (needs, gathering)) (λ c. search needs)
-    (λ c κs. search needs) (λ c κs. search (needs, gathering)) (λ c. search (needs, gathering))
+    (λ c κs. search needs) (λ c. search (needs, gathering)) (λ c. search (needs, gathering))
     (λ c κs. search (needs, gathering)) (λ c κs. search needs) (λ c. search (needs, gathering)) (λ c. search needs)
     (λ c. search (needs, gathering)) (λ c. search needs) (λ c. search (needs, gathering))
     (λ c. search (needs, gathering)))

@@ -7,7 +7,5 @@ use Rattle.steps.proofs.settle.next_answer.Tie as tie
 pub next-answer-spec : {M : Type 1} → statement M
 next-answer-spec =
     tie.close
-    (tie.spec (λ c. search (needs, decides)) (λ c. search (needs, decides)) (λ c κs. search needs)
-    (λ c. search (needs, decides)) (λ c. search (needs, decides)) (λ c. search (needs, decides))
-    (λ c. search (needs, decides)) (λ c κs. search needs) (λ c. search (needs, decides))
-    (λ c. search (needs, decides)))
+    (tie.spec (λ c. search (needs, decides)) (λ c. search (needs, decides)) (λ c. search (needs, decides))
+    (λ c. search (needs, decides)) (λ c. search (needs, decides)) (λ c. search (needs, decides)))

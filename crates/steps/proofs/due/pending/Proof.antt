@@ -1,9 +1,9 @@
--- `gather::pending` meets its contract. Assumes nothing.
+-- `due::pending` meets its contract. Assumes nothing.
 use borrow.Author.Needs.{needs}
 use Prim.Native.Nat.{_-_}
-use Rattle.steps.proofs.GatherLaws.{pends}
-use Rattle.steps.proofs.gather.pending.Statement.{statement}
-use Rattle.steps.proofs.gather.pending.Tie as tie
+use Rattle.steps.proofs.DueLaws.{pends}
+use Rattle.steps.proofs.due.pending.Statement.{statement}
+use Rattle.steps.proofs.due.pending.Tie as tie
 
 pub pending-spec : {M : Type 1} → statement M
 pending-spec = tie.close
