@@ -1,27 +1,56 @@
 -- Loops that write an answer for each atom, what a level without undefined atoms comes to, and levels one after the
 -- other.
 -- Assumes nothing.
-use mathlib.Core.Path.{_≡_, sym, ap, _∙_}
-use mathlib.Core.Bool.{Bool, true, false, _&&_}
+use mathlib.Core.Path.{_≡_, refl, sym, ap, _∙_}
+use mathlib.Core.Bool.{Bool, true, false, not, _&&_}
 use mathlib.Core.List.{List, map}
 use Prim.Native.Nat.{ℕ, _+_, _<_, _≤_}
 use native.Mathlib.Omega.{arith}
 use lib.ListN.{length, length-map, set, take}
 use lib.Dec.{eqb}
-use Rattle.laws.specs.Lists.{mapAt}
+use borrow.Author.Tests.{eq-eqb, ne-eqb, not-true}
+use Rattle.laws.specs.Lists.{anyTo, mapAt}
 use Rattle.laws.proofs.Entries.{map-at}
 use Rattle.laws.proofs.Places.{mapAt-at, mapAt-length}
-use Rattle.theory.specs.Truth.{Truth}
+use Rattle.laws.proofs.Numbers.{any-found-read, any-next, any-none, any-number}
+use Rattle.laws.proofs.Searches.{NoneTo}
+use Rattle.laws.proofs.Tests.{fails-of, right, test-clash}
+use Rattle.theory.specs.Truth.{Truth, isUndefined}
 use Rattle.meaning.specs.Format.{countOf, noAtom, tables}
 use Rattle.meaning.specs.Reading.{codeOf, givenIn, givenOf, isCertain, truthOf}
 use Rattle.meaning.specs.Model.{close, closing}
 use Rattle.meaning.proofs.Bytes.{atoms-length}
-use Rattle.book.specs.Records.{atomIn, kindRead, levelRead}
+use Rattle.book.specs.Records.{atomIn, kindRead, levelRead, predicateIn}
+use Rattle.book.proofs.AtomLaws.{level-code}
 use Rattle.judge.specs.Held.{held}
 use Rattle.steps.specs.Work.{Ready, answersIn, levelsIn, rulesIn}
+use Rattle.steps.specs.Due.{pendingIn}
+use Rattle.engine.specs.Turns.{levelIs}
 use Rattle.steps.proofs.GatherLaws.{undefined-code}
 use Rattle.judge.proofs.CodeLaws.{code-back}
 use Rattle.steps.proofs.WorkLaws.{Written, few, written-all, written-more, written-none}
+
+-- the predicates of a level, looked at one after the other
+module _ (b : List ℕ) (n p x : ℕ) (e : x ≡ predicateIn b p .level) where
+  pub level-found : (m : ℕ) → x ≡ n → p < m → m ≡ countOf b 0 → true ≡ anyTo (levelIs b n) (countOf b 0)
+  level-found m q l s = any-found-read (levelIs b n) p (countOf b 0) m true (sym (eq-eqb _ n (sym e ∙ q))) refl l s
+
+  pub level-next : (x ≡ n → ⊥) → anyTo (levelIs b n) p ≡ false → anyTo (levelIs b n) (p + 1) ≡ false
+  level-next f c = any-next (levelIs b n) p false c (sym (ne-eqb _ n (λ z. f (e ∙ z)))) refl
+
+pub ruleset levels = (level-found, level-next)
+
+-- a level without one has nothing to decide
+pub level-bare : (b : List ℕ) (n : ℕ) (L : List ℕ) (v : Bool) → v ≡ anyTo (levelIs b n) (countOf b 0) → not v ≡ true →
+    Ready b → false ≡ anyTo (pendingIn b n L) (countOf b 1)
+unfolding NoneTo pendingIn
+level-bare b n L v e f R =
+    sym (fails-of (anyTo (pendingIn b n L) (countOf b 1)) (λ t.
+    let (a, l, u) = any-number (pendingIn b n L) (countOf b 1) t in
+    let own : levelRead b a ≡ predicateIn b (atomIn b a .predicate) .level =
+    sym (level-code b a (atomIn b a .predicate) _ l refl refl) in
+    let none = any-none (levelIs b n) (countOf b 0) (sym e ∙ not-true v f) (atomIn b a .predicate) (R .indexed .atom a l) in
+    test-clash (rw own at (right (isUndefined (held L a)) _ u)) none))
 
 -- the closing of a level, at one atom
 module _ (b : List ℕ) (n a x : ℕ) where

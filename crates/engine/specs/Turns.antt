@@ -1,12 +1,19 @@
--- What the rounds of a level and a level leave. Assumes nothing.
+-- Which predicates a level has, and what the rounds of a level and a level leave. Assumes nothing.
 use mathlib.Core.Path.{_≡_}
+use mathlib.Core.Bool.{Bool}
 use mathlib.Core.List.{List}
 use Prim.Native.Nat.{ℕ}
+use lib.Dec.{eqb}
 use lib.ListN.{length, take}
 use Rattle.laws.specs.Lists.{times}
 use Rattle.meaning.specs.Format.{countOf}
 use Rattle.meaning.specs.Model.{level, round}
+use Rattle.book.specs.Records.{predicateIn}
 use Rattle.steps.specs.Work.{answersIn, levelsIn, rulesIn}
+
+-- predicate p is of level n
+abbrev pub levelIs : List ℕ → ℕ → ℕ → Bool
+levelIs b n p = eqb (predicateIn b p .level) n
 
 -- as many rounds as there are atoms
 pub record Rested (b : List ℕ) (n : ℕ) (L after : List ℕ) : Type 0 where

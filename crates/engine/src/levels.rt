@@ -9,21 +9,42 @@ ghost use Rattle.meaning.specs.Reading.{codeOf, givenOf, truthOf};
 ghost use Rattle.meaning.specs.Model.{close, closing};
 ghost use Rattle.steps.specs.Work.{Ready, answersIn, levelsIn, rulesIn};
 ghost use Rattle.steps.specs.Due.{pendingIn};
+ghost use Rattle.engine.specs.Turns.{levelIs};
 use book::atoms::is_certain;
 use book::atoms::level_of;
 use book::fields::atom_given;
+use book::fields::predicate_level;
 use book::readers::count_of;
 use book::readers::narrow;
 use judge::literal::answer;
 use judge::literal::set_answer;
 use steps::due::pending;
 
-// Is some atom of the level undefined? A level without one costs no more than this look.
+// Has the level a predicate? One without costs no more than this look.
+fn inhabited(book: &[u8], level: usize) -> bool
+    requires { ⌜ Ready (now book) ⌝ }
+    ensures { λ r. ⌜ r ≡ anyTo (levelIs (now (book .entry)) level) (countOf (now (book .entry)) 0) ⌝ }
+{
+    let n = count_of(book, 0);
+    let mut p = 0;
+    while p < n {
+        if predicate_level(book, p) == level {
+            return true;
+        }
+        p += 1;
+    }
+    false
+}
+
+// Is some atom of the level undefined?
 pub fn busy(book: &[u8], answers: &[u8], level: usize) -> bool
     requires { ⌜ Ready (now book) × (length (now answers) ≡ countOf (now book) 1) ⌝ }
     ensures { λ r. ⌜ r ≡ anyTo (pendingIn (now (book .entry)) level (now (answers .entry)))
         (countOf (now (book .entry)) 1) ⌝ }
 {
+    if !inhabited(book, level) {
+        return false;
+    }
     let n = count_of(book, 1);
     let mut a = 0;
     while a < n {

@@ -6,6 +6,7 @@ use borrow.Author.Needs.{needs}
 use Rattle.laws.specs.Lists.{anyTo}
 use Rattle.laws.proofs.Numbers.{looking}
 use Rattle.steps.specs.Due.{pendingIn}
+use Rattle.engine.proofs.LevelLaws.{level-bare}
 use Rattle.engine.proofs.levels.busy.Statement.{statement}
 use Rattle.engine.proofs.levels.busy.Tie as tie
 
@@ -18,6 +19,6 @@ abbrev μ-loop : tie.MeasureT-loop
 pub busy-spec : {M : Type 1} → statement M
 busy-spec =
     tie.close
-    (tie.spec Inv-loop μ-loop (λ c κs. search needs) (λ c. search (needs, looking)) (λ c κs. search needs)
-    (λ c. search (needs, looking)) (λ c. search needs) (λ c. search needs) (λ c. search (needs, looking))
-    (λ c. search (needs, looking)))
+    (tie.spec Inv-loop μ-loop (λ c κs. search needs) (λ c. search (needs, level-bare)) (λ c κs. search needs)
+    (λ c. search (needs, looking)) (λ c κs. search needs) (λ c. search (needs, looking)) (λ c. search needs)
+    (λ c. search needs) (λ c. search (needs, looking)) (λ c. search (needs, looking)))
