@@ -47,9 +47,9 @@ unfolding NoneTo pendingIn
 level-bare b n L v e f R =
     sym (fails-of (anyTo (pendingIn b n L) (countOf b 1)) (λ t.
     let (a, l, u) = any-number (pendingIn b n L) (countOf b 1) t in
-    let own : levelRead b a ≡ predicateIn b (atomIn b a .predicate) .level =
-    sym (level-code b a (atomIn b a .predicate) _ l refl refl) in
-    let none = any-none (levelIs b n) (countOf b 0) (sym e ∙ not-true v f) (atomIn b a .predicate) (R .indexed .atom a l) in
+    let p = atomIn b a .predicate in
+    let own : levelRead b a ≡ predicateIn b p .level = sym (level-code b a p _ l refl refl) in
+    let none = any-none (levelIs b n) (countOf b 0) (sym e ∙ not-true v f) p (R .indexed .atom a l) in
     test-clash (rw own at (right (isUndefined (held L a)) _ u)) none))
 
 -- the closing of a level, at one atom

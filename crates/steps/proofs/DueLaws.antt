@@ -14,7 +14,7 @@ use borrow.Author.Tests.{eq-eqb, ne-eqb}
 use Rattle.theory.specs.Truth.{Truth, isUndefined}
 use Rattle.meaning.specs.Format.{countOf}
 use Rattle.meaning.specs.Reading.{Kind, codeOf, isClosed, isComplete, kindOf}
-use Rattle.book.specs.Records.{kindCode, kindRead, levelRead}
+use Rattle.book.specs.Records.{kindCode, levelRead}
 use Rattle.book.proofs.AtomLaws.{kind-read}
 use Rattle.judge.specs.Held.{held}
 use Rattle.steps.specs.Work.{Ready}

@@ -15,7 +15,7 @@ use Rattle.laws.proofs.Tests.{and-none, by-test, either-fails, left, not-of, or
 use Rattle.theory.specs.Truth.{Truth, isFalse, isTrue, isUndefined}
 use Rattle.theory.proofs.Truth.{undefined-of}
 use Rattle.meaning.specs.Format.{countOf}
-use Rattle.meaning.specs.Reading.{Reading, codeOf, truthOf}
+use Rattle.meaning.specs.Reading.{codeOf, truthOf}
 use Rattle.meaning.specs.Model.{decide, falls, membersOf, next, unfounded}
 use Rattle.book.specs.Records.{kindRead, levelRead}
 use Rattle.judge.proofs.CodeLaws.{code-back, code-itself}

@@ -10,22 +10,31 @@ use Rattle.steps.proofs.round.round.Tie as tie
 -- the front of an array that is lent to step (c)
 slice-aggregate-unfounded-2 : tie.Need-slice-aggregate-unfounded-2
 slice-aggregate-unfounded-2 c =
-    let started = c .before .before .before .before .before .before in
-    let start = started .before .before .before .before in
-    let given = start .pre in
-    lent-count _ (now (start .args .before)) (given .0) (given .1) (replicate 2048 0) (length-replicate {A = ℕ} 2048 0)
+    let gathered = c .before .before in
+    let known = gathered .before .before .before in
+    let started = known .before in
+    let start = started .before .before .before in
+    let given = start .before .pre in
+    lent-count _ (now (start .before .args .before)) (given .0) (given .1) (replicate 2048 0)
+    (length-replicate {A = ℕ} 2048 0)
 
 -- what step (c) left at the front of the array is as long as the answers
 slice-aggregate-settle-3 : tie.Need-slice-aggregate-settle-3
 slice-aggregate-settle-3 c =
-    let ended = c .before .before .before .before .before .before in
-    let started = ended .before .before .before .before .before .before .before .before in
+    let lent = c .before .before .before in
+    let ended = lent .before .before .before in
+    let gathered = ended .before .before .before in
+    let known = gathered .before .before .before in
+    let started = known .before .before in
     back-count _ _ _ _ _ _ (ended .unfounded .ensures) (started .due .ensures)
 
 settle-requires : tie.Need-settle-requires
 settle-requires c κs =
-    let ended = c .before .before .before .before .before .before in
-    let started = ended .before .before .before .before .before .before .before .before in (
+    let lent = c .before .before .before in
+    let ended = lent .before .before .before in
+    let gathered = ended .before .before .before in
+    let known = gathered .before .before .before in
+    let started = known .before .before in (
       search (needs, turn-round),
       search (needs, turn-round),
       search (needs, turn-round),
@@ -35,11 +44,15 @@ settle-requires c κs =
 returns : tie.Need-returns
 returns c =
     let settled = c .before in
-    let ended = settled .before .before .before .before .before .before .before in
-    let gathered = ended .before .before .before .before in
+    let lent = settled .before .before .before in
+    let taken = lent .before .before .before in
+    let ended = taken .before in
+    let assumed = ended .before .before .before in
+    let gathered = assumed .before in
     let known = gathered .before .before .before in
     let started = known .before in
-    let given = started .before .before .before .before .pre in
+    let start = started .before .before .before in
+    let given = start .before .pre in
     turned _ _ _ _ _ _ _ _ _ (settled .settle .ensures) (given .0) (given .1) (started .due .ensures)
     (known .truths .ensures) (gathered .gather .ensures)
     (back-exact _ _ _ _ _ _ (ended .unfounded .ensures) (started .due .ensures))

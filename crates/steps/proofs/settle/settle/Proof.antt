@@ -1,6 +1,5 @@
 -- `settle::settle` meets its contract: the atoms passed so far have their next answers. Assumes nothing.
 use borrow.Author.Needs.{needs}
-use native.Mathlib.Omega.{arith}
 use Prim.Native.Nat.{_-_, _≤_}
 use mathlib.Core.Path.{refl}
 use Rattle.steps.specs.Round.{Settled}

@@ -27,8 +27,10 @@ returns c =
 -- the last pass struck nothing out
 returns-2 : tie.Need-returns-2 Inv-loop μ-loop
 returns-2 c =
-    let turned = c .before .before .before .before .before .before in
-    let turn = turned .before .before .before .before in
+    let back = c .before .before .before in
+    let turned = back .before .before .before in
+    let lent = turned .before .before .before in
+    let turn = lent .before in
     turn-ended _ _ _ _ _ (turn .loop .inv .2) _ (turned .turn .ensures .1 .1) (search needs)
 
 pub unfounded-spec : {M : Type 1} → statement M
