@@ -1,5 +1,5 @@
--- Hypotheses and rule bodies: a hypothesis by its sort, what one more makes of a body, and that a body judged with the
--- comparisons' truths known is document 01's. Assumes nothing.
+-- Hypotheses and rule bodies: a hypothesis by its sort, a body by its records, and what one record more makes of it.
+-- Assumes nothing.
 use mathlib.Core.Path.{_≡_, refl, sym, ap, ap₂, _∙_}
 use mathlib.Core.Logic.{inl, inr}
 use mathlib.Core.Bool.{cond}
@@ -20,8 +20,8 @@ use Rattle.meaning.specs.Reading as reading
 use Rattle.meaning.specs.Truth.{bodyTruth, comparisonTruth, hypothesisTruth, literalTruth, meet}
 use Rattle.meaning.proofs.Bytes.{body-length}
 use Rattle.book.specs.Framed.{Indexed}
-use Rattle.book.specs.Records.{comparisonRead, hypothesisIn, ruleIn}
-use Rattle.judge.specs.Held.{held, recordTruth, recordsTruth, ruleRecords, sortTruth}
+use Rattle.book.specs.Records.{comparisonRead, hypothesisIn, ruleIn, ruleRead}
+use Rattle.judge.specs.Held.{freshAt, held, recordTruth, recordsTruth, ruleRecords, sortTruth}
 use Rattle.laws.proofs.Lasts.{slice-more, slice-start}
 use Rattle.judge.proofs.CodeLaws.{code-back, rest-undefined}
 
@@ -50,8 +50,8 @@ module _
   pub atom-negated : s ≡ 1 → countOf b 1 ≤ length W → i < length W
   atom-negated e m = atom-of m (omega (arith, e))
 
-  pub comparison-of : countOf b 4 ≤ length W → (s ≡ 0 → ⊥) → (s ≡ 1 → ⊥) → i < length W
-  comparison-of m n0 n1 = let p = rw (le-ltb s 2 (above-one s n0 n1)) at index-within in omega (arith, p, m)
+  pub comparison-of : (s ≡ 0 → ⊥) → (s ≡ 1 → ⊥) → i < countOf b 4
+  comparison-of n0 n1 = rw (le-ltb s 2 (above-one s n0 n1)) at index-within
 
 -- its truth, by its sort
 pub literal-sort : (A K : Answers) (s i : ℕ) → s < 2 → literalTruth A (literalOf s i) ≡ sortTruth A K s i
@@ -65,16 +65,16 @@ known-sort A K zero i l = absurd (omega (arith, l))
 known-sort A K (suc zero) i l = absurd (omega (arith, l))
 known-sort A K (suc (suc s)) i l = refl
 
-module _ (b W K : List ℕ) (h s i x : ℕ) (es : s ≡ hypothesisIn b h .sort) (ei : i ≡ hypothesisIn b h .index) where
+module _ (b W : List ℕ) (h s i x : ℕ) (es : s ≡ hypothesisIn b h .sort) (ei : i ≡ hypothesisIn b h .index) where
   pub literal-is : (t : ℕ) → x ≡ codeOf (literalTruth (held W) (literalOf t i)) → s ≡ t → t < 2 →
-      x ≡ codeOf (recordTruth (held W) (held K) (hypothesisIn b h))
-  literal-is t e st l = e ∙ rw (← es, ← ei, st) (ap codeOf (literal-sort (held W) (held K) t i l))
+      x ≡ codeOf (recordTruth (held W) (freshAt b W) (hypothesisIn b h))
+  literal-is t e st l = e ∙ rw (← es, ← ei, st) (ap codeOf (literal-sort (held W) (freshAt b W) t i l))
 
-  pub known-is : x ≡ codeOf (held K i) → (s ≡ 0 → ⊥) → (s ≡ 1 → ⊥) →
-      x ≡ codeOf (recordTruth (held W) (held K) (hypothesisIn b h))
-  known-is e n0 n1 = e ∙ rw (← es, ← ei) (ap codeOf (known-sort (held W) (held K) s i (above-one s n0 n1)))
+  pub compared-is : x ≡ codeOf (freshAt b W i) → (s ≡ 0 → ⊥) → (s ≡ 1 → ⊥) →
+      x ≡ codeOf (recordTruth (held W) (freshAt b W) (hypothesisIn b h))
+  compared-is e n0 n1 = e ∙ rw (← es, ← ei) (ap codeOf (known-sort (held W) (freshAt b W) s i (above-one s n0 n1)))
 
-pub ruleset sorts = (atom-plain, atom-negated, comparison-of, literal-is, known-is)
+pub ruleset sorts = (atom-plain, atom-negated, comparison-of, literal-is, compared-is)
 
 -- meets
 meet-true : (x : Truth) → meet x Truth.true ≡ x
@@ -126,69 +126,11 @@ pub rule-within : (b : List ℕ) (r first n i : ℕ) → Indexed b → r < count
     n ≡ ruleIn b r .many → i < n → first + i < countOf b 3
 rule-within b r first n i I l p q m = omega (arith, I .rule r l, p, q, m)
 
--- what the first i hypotheses of a rule come to
-module _ (b W K : List ℕ) (first : ℕ) where
-  unfoldable pub bodyTo : ℕ → Truth
-  bodyTo i = recordsTruth (held W) (held K) (range first i (tables b .hypotheses))
+count-is : (b : List ℕ) → length (tables b .hypotheses) ≡ countOf b 3
+unfolding tables
+count-is b = body-length hypothesisAt b 3
 
-  pub body-start : 1 ≡ codeOf (bodyTo 0)
-  unfolding bodyTo recordsTruth
-  body-start = rw (slice-start first (tables b .hypotheses))
-
-  count-is : length (tables b .hypotheses) ≡ countOf b 3
-  unfolding tables
-  count-is = body-length hypothesisAt b 3
-
-  module _
-      (r n i x : ℕ)
-      (I : Indexed b)
-      (l : r < countOf b 2)
-      (ef : first ≡ ruleIn b r .first)
-      (en : n ≡ ruleIn b r .many)
-      (m : i < n)
-      (ex : x ≡ codeOf (recordTruth (held W) (held K) (hypothesisIn b (first + i)))) where
-    all-within : first + n ≤ length (tables b .hypotheses)
-    all-within = omega (arith, I .rule r l, ef, en, count-is)
-
-    truth-of : truthOf x ≡ recordTruth (held W) (held K) (hypothesisIn b (first + i))
-    truth-of = ap truthOf ex ∙ code-back _
-
-    body-more : bodyTo (i + 1) ≡ meet (bodyTo i) (truthOf x)
-    unfolding bodyTo
-    body-more =
-        ap (recordsTruth (held W) (held K))
-        (slice-more noHypothesis first i (tables b .hypotheses) (omega (arith, all-within, m))) ∙
-        records-more (held W) (held K) (range first i (tables b .hypotheses)) (hypothesisIn b (first + i)) ∙
-        ap (meet (recordsTruth (held W) (held K) (range first i (tables b .hypotheses)))) (sym truth-of)
-
-    pub body-true : (y : ℕ) → y ≡ codeOf (bodyTo i) → x ≡ 1 → y ≡ codeOf (bodyTo (i + 1))
-    body-true y ey e = rw (body-more, e, meet-true) ey
-
-    pub body-undefined : (y : ℕ) → y ≡ codeOf (bodyTo i) → y < 2 → (x ≡ 1 → ⊥) → (x ≡ 2 → ⊥) →
-        0 ≡ codeOf (bodyTo (i + 1))
-    body-undefined y ey s p q =
-        rw (body-more, rest-undefined x p q, open-meet (bodyTo i) (omega (arith, ey, s)))
-
-    pub body-false : x ≡ 2 → 2 ≡ codeOf (recordsTruth (held W) (held K) (ruleRecords b r))
-    body-false e =
-        ap codeOf (sym (records-false (held W) (held K) (ruleRecords b r) i
-        (rw (← ef, ← en) (omega (arith, length-slice first (first + n) (tables b .hypotheses) all-within, m)))
-        (rw (← ef, ← en)
-        (ap (recordTruth (held W) (held K))
-        (getD-drop first (take (first + n) (tables b .hypotheses)) i noHypothesis ∙
-        getD-take (first + n) (tables b .hypotheses) (first + i) noHypothesis (omega (arith, m))) ∙
-        sym truth-of ∙ ap truthOf e))))
-
-  pub body-end : (r n i y : ℕ) → first ≡ ruleIn b r .first → n ≡ ruleIn b r .many → i ≤ n → n ≤ i →
-      y ≡ codeOf (bodyTo i) → y ≡ codeOf (recordsTruth (held W) (held K) (ruleRecords b r))
-  unfolding bodyTo
-  body-end r n i y ef en l m e =
-      let same : i ≡ n = omega (arith, l, m) in
-      e ∙ rw (same, ef, en)
-
-pub ruleset bodies = (rule-within, body-start, body-true, body-undefined, body-false, body-end)
-
--- A body judged with the comparisons' truths known is document 01's.
+-- a body judged by its records, comparison c having the truth K c, is document 01's
 module _
     (b : List ℕ)
     (A K : Answers)
@@ -207,7 +149,7 @@ module _
   records-body [] e = refl
   records-body (h ∷ hs) e =
       let (i, l, p) = in-getD noHypothesis (tables b .hypotheses) h (e h (inl refl)) in
-      let at = rw p at (I .hypothesis i (omega (arith, l, count-is b b b 0))) in
+      let at = rw p at (I .hypothesis i (omega (arith, l, count-is b))) in
       ap₂ meet (sort-is (h .sort) (h .index) at) (records-body hs (λ x j. e x (inr j)))
 
   pub known-body : (r : ℕ) → r < countOf b 2 →
@@ -218,3 +160,65 @@ module _
       records-body (ruleRecords b r)
       (λ h j. in-take past (tables b .hypotheses) h
       (in-drop (ruleIn b r .first) (take past (tables b .hypotheses)) h j))
+
+fresh-body : (b W : List ℕ) → Indexed b → (r : ℕ) → r < countOf b 2 →
+    recordsTruth (held W) (freshAt b W) (ruleRecords b r) ≡ bodyTruth (held W) (ruleRead b r .body)
+fresh-body b W I r l = known-body b (held W) (freshAt b W) I (λ c _. refl) r l
+
+-- what the first i hypotheses of a rule come to
+module _ (b W : List ℕ) (first : ℕ) where
+  unfoldable pub bodyTo : ℕ → Truth
+  bodyTo i = recordsTruth (held W) (freshAt b W) (range first i (tables b .hypotheses))
+
+  pub body-start : 1 ≡ codeOf (bodyTo 0)
+  unfolding bodyTo recordsTruth
+  body-start = rw (slice-start first (tables b .hypotheses))
+
+  module _
+      (r n i x : ℕ)
+      (I : Indexed b)
+      (l : r < countOf b 2)
+      (ef : first ≡ ruleIn b r .first)
+      (en : n ≡ ruleIn b r .many)
+      (m : i < n)
+      (ex : x ≡ codeOf (recordTruth (held W) (freshAt b W) (hypothesisIn b (first + i)))) where
+    all-within : first + n ≤ length (tables b .hypotheses)
+    all-within = omega (arith, I .rule r l, ef, en, count-is b)
+
+    truth-of : truthOf x ≡ recordTruth (held W) (freshAt b W) (hypothesisIn b (first + i))
+    truth-of = ap truthOf ex ∙ code-back _
+
+    body-more : bodyTo (i + 1) ≡ meet (bodyTo i) (truthOf x)
+    unfolding bodyTo
+    body-more =
+        ap (recordsTruth (held W) (freshAt b W))
+        (slice-more noHypothesis first i (tables b .hypotheses) (omega (arith, all-within, m))) ∙
+        records-more (held W) (freshAt b W) (range first i (tables b .hypotheses)) (hypothesisIn b (first + i)) ∙
+        ap (meet (recordsTruth (held W) (freshAt b W) (range first i (tables b .hypotheses)))) (sym truth-of)
+
+    pub body-true : (y : ℕ) → y ≡ codeOf (bodyTo i) → x ≡ 1 → y ≡ codeOf (bodyTo (i + 1))
+    body-true y ey e = rw (body-more, e, meet-true) ey
+
+    pub body-undefined : (y : ℕ) → y ≡ codeOf (bodyTo i) → y < 2 → (x ≡ 1 → ⊥) → (x ≡ 2 → ⊥) →
+        0 ≡ codeOf (bodyTo (i + 1))
+    body-undefined y ey s p q =
+        rw (body-more, rest-undefined x p q, open-meet (bodyTo i) (omega (arith, ey, s)))
+
+    pub body-false : x ≡ 2 → 2 ≡ codeOf (bodyTruth (held W) (ruleRead b r .body))
+    body-false e =
+        ap codeOf (sym (sym (fresh-body b W I r l) ∙ records-false (held W) (freshAt b W) (ruleRecords b r) i
+        (rw (← ef, ← en) (omega (arith, length-slice first (first + n) (tables b .hypotheses) all-within, m)))
+        (rw (← ef, ← en)
+        (ap (recordTruth (held W) (freshAt b W))
+        (getD-drop first (take (first + n) (tables b .hypotheses)) i noHypothesis ∙
+        getD-take (first + n) (tables b .hypotheses) (first + i) noHypothesis (omega (arith, m))) ∙
+        sym truth-of ∙ ap truthOf e))))
+
+  pub body-end : (r n i y : ℕ) → first ≡ ruleIn b r .first → n ≡ ruleIn b r .many → Indexed b → r < countOf b 2 →
+      i ≤ n → n ≤ i → y ≡ codeOf (bodyTo i) → y ≡ codeOf (bodyTruth (held W) (ruleRead b r .body))
+  unfolding bodyTo
+  body-end r n i y ef en I k l m e =
+      let same : i ≡ n = omega (arith, l, m) in
+      e ∙ rw (same, ef, en) (ap codeOf (fresh-body b W I r k))
+
+pub ruleset bodies = (rule-within, body-start, body-true, body-undefined, body-false, body-end)

@@ -11,5 +11,7 @@ pub mod ElementLaws
 pub mod SumLaws
 -- max and min
 pub mod ExtremeLaws
+-- the truths of comparisons that were asked for
+pub mod AskedLaws
 -- hypotheses and rule bodies
 pub mod BodyLaws

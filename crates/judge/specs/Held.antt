@@ -1,18 +1,28 @@
--- Answers as they are held in memory, and a rule body judged where the truth of each comparison is known already.
--- Assumes nothing.
-use Prim.Native.Nat.{ℕ, zero, suc}
+-- Answers as they are held in memory, the truths of comparisons at them, and a rule body by its records. Assumes
+-- nothing.
+use mathlib.Core.Path.{_≡_}
+use Prim.Native.Nat.{ℕ, zero, suc, _<_}
 use mathlib.Core.List.{List, [], _∷_}
-use lib.ListN.{getD}
+use lib.ListN.{length, getD}
 use Rattle.theory.specs.Truth.{Truth, flip}
 use Rattle.theory.specs.Answers.{Answers}
-use Rattle.meaning.specs.Format.{HypothesisRecord, tables}
-use Rattle.meaning.specs.Reading.{range, truthOf}
-use Rattle.meaning.specs.Truth.{meet}
-use Rattle.book.specs.Records.{ruleIn}
+use Rattle.meaning.specs.Format.{HypothesisRecord, countOf, tables}
+use Rattle.meaning.specs.Reading.{codeOf, range, truthOf}
+use Rattle.meaning.specs.Truth.{comparisonTruth, meet}
+use Rattle.book.specs.Records.{comparisonRead, ruleIn}
 
 -- one byte an atom: 0 undefined, 1 true, 2 false
 unfoldable pub held : List ℕ → Answers
 held W a = truthOf (getD W a 0)
+
+-- the truth of each comparison at what is held
+abbrev pub freshAt : List ℕ → List ℕ → Answers
+freshAt b W c = comparisonTruth (held W) (comparisonRead b c)
+
+-- K has it for each comparison that was asked for, and 3 for the others
+pub record Asked (b W K : List ℕ) : Type 0 where
+  pub long : length K ≡ 512
+  pub truths : (c : ℕ) → c < countOf b 4 → (getD K c 0 ≡ 3 → ⊥) → getD K c 0 ≡ codeOf (freshAt b W c)
 
 -- a hypothesis at answers A, comparison c having the truth K c
 abbrev pub sortTruth : Answers → Answers → ℕ → ℕ → Truth

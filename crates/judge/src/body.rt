@@ -1,42 +1,60 @@
-// The truth of a hypothesis and of a rule body, where the truth of each comparison is known already: it is found once
-// for a round.
+// The truth of a hypothesis and of a rule body. A comparison is judged when a rule first asks for it, once for a round.
 ghost use mathlib.Core.Path.{_≡_};
 ghost use Prim.Native.Nat.{_<_, _≤_};
 ghost use lib.ListN.{length};
 ghost use Rattle.meaning.specs.Format.{countOf};
 ghost use Rattle.meaning.specs.Reading.{codeOf};
+ghost use Rattle.meaning.specs.Truth.{bodyTruth};
 ghost use Rattle.book.specs.Framed.{Framed, Indexed};
-ghost use Rattle.book.specs.Records.{hypothesisIn};
-ghost use Rattle.judge.specs.Held.{held, recordTruth, recordsTruth, ruleRecords};
-use crate::literal::answer;
+ghost use Rattle.book.specs.Records.{hypothesisIn, ruleRead};
+ghost use Rattle.judge.specs.Held.{Asked, freshAt, held, recordTruth};
+use crate::comparison::comparison;
 use crate::literal::literal;
 use book::fields::hypothesis_index;
 use book::fields::hypothesis_sort;
 use book::fields::rule_first;
 use book::fields::rule_many;
 
+// Comparison c: 3 stands for one that no rule has asked for yet.
+fn compared(book: &[u8], answers: &[u8], known: &mut [u8], c: usize) -> u8
+    requires { ⌜ Framed (now book) × Indexed (now book) × (countOf (now book) 1 ≤ length (now answers))
+        × Asked (now book) (now answers) (now known) × (c < countOf (now book) 4) ⌝ }
+    ensures is { λ r. ⌜ r ≡ codeOf (freshAt (now (book .entry)) (now (answers .entry)) c) ⌝ }
+    ensures asked { λ r. ⌜ Asked (now (book .entry)) (now (answers .entry)) (now (known .exit)) ⌝ }
+{
+    let seen = known[c];
+    if seen != 3 {
+        return seen;
+    }
+    let truth = comparison(book, answers, c);
+    known[c] = truth;
+    truth
+}
+
 // 0 atom, 1 not atom, 2 comparison.
-pub fn hypothesis(book: &[u8], answers: &[u8], known: &[u8], h: usize) -> u8
-    requires { ⌜ Framed (now book) × Indexed (now book) × (countOf (now book) 1 ≤ length (now answers)) ×
-        (countOf (now book) 4 ≤ length (now known)) × (h < countOf (now book) 3) ⌝ }
-    ensures { λ r. ⌜ r ≡ codeOf (recordTruth (held (now (answers .entry))) (held (now (known .entry)))
-        (hypothesisIn (now (book .entry)) h)) ⌝ }
+fn hypothesis(book: &[u8], answers: &[u8], known: &mut [u8], h: usize) -> u8
+    requires { ⌜ Framed (now book) × Indexed (now book) × (countOf (now book) 1 ≤ length (now answers))
+        × Asked (now book) (now answers) (now known) × (h < countOf (now book) 3) ⌝ }
+    ensures is { λ r. ⌜ r ≡ codeOf (recordTruth (held (now (answers .entry)))
+        (freshAt (now (book .entry)) (now (answers .entry))) (hypothesisIn (now (book .entry)) h)) ⌝ }
+    ensures asked { λ r. ⌜ Asked (now (book .entry)) (now (answers .entry)) (now (known .exit)) ⌝ }
 {
     let sort = hypothesis_sort(book, h);
     let i = hypothesis_index(book, h);
     match sort {
         0 => literal(answers, 0, i),
         1 => literal(answers, 1, i),
-        2.. => answer(known, i),
+        2.. => compared(book, answers, known, i),
     }
 }
 
 // True when all hypotheses are true and false when one is false: the first false one ends the reading.
-pub fn body(book: &[u8], answers: &[u8], known: &[u8], r: usize) -> u8
-    requires { ⌜ Framed (now book) × Indexed (now book) × (countOf (now book) 1 ≤ length (now answers)) ×
-        (countOf (now book) 4 ≤ length (now known)) × (r < countOf (now book) 2) ⌝ }
-    ensures { λ x. ⌜ x ≡ codeOf (recordsTruth (held (now (answers .entry))) (held (now (known .entry)))
-        (ruleRecords (now (book .entry)) r)) ⌝ }
+pub fn body(book: &[u8], answers: &[u8], known: &mut [u8], r: usize) -> u8
+    requires { ⌜ Framed (now book) × Indexed (now book) × (countOf (now book) 1 ≤ length (now answers))
+        × Asked (now book) (now answers) (now known) × (r < countOf (now book) 2) ⌝ }
+    ensures is { λ x. ⌜ x ≡ codeOf (bodyTruth (held (now (answers .entry)))
+        (ruleRead (now (book .entry)) r .body)) ⌝ }
+    ensures asked { λ x. ⌜ Asked (now (book .entry)) (now (answers .entry)) (now (known .exit)) ⌝ }
 {
     let first = rule_first(book, r);
     let many = rule_many(book, r);

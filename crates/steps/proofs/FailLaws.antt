@@ -24,10 +24,10 @@ use Rattle.meaning.specs.Truth.{bodyTruth, comparisonTruth, hypothesisTruth, li
 use Rattle.meaning.proofs.Bytes.{body-length}
 use Rattle.meaning.proofs.Hypotheses.{hypothesis-local}
 use Rattle.book.specs.Records.{comparisonRead, hypothesisIn, ruleIn, ruleRead}
-use Rattle.judge.specs.Held.{held, recordTruth, recordsTruth, ruleRecords}
+use Rattle.judge.specs.Held.{freshAt, held, recordTruth, recordsTruth, ruleRecords}
 use Rattle.judge.proofs.BodyLaws.{atom-of, index-within, known-body, known-sort, literal-sort, rule-within}
 use Rattle.steps.specs.Work.{Ready}
-use Rattle.steps.specs.Strike.{Lags, failsAt, freshAt}
+use Rattle.steps.specs.Strike.{Lags, failsAt}
 
 false-code : (t : Truth) → eqb (codeOf t) 2 ≡ isFalse t
 false-code Truth.undefined = refl

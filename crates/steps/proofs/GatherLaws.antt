@@ -13,6 +13,8 @@ use Rattle.theory.specs.Truth.{Truth}
 use Rattle.meaning.specs.Format.{countOf}
 use Rattle.meaning.specs.Reading.{codeOf, truthOf}
 use Rattle.book.specs.Records.{ruleIn}
+use Rattle.judge.specs.Held.{Asked}
+use Rattle.judge.proofs.AskedLaws.{asked-long, asked-none}
 use Rattle.judge.proofs.CodeLaws.{code-back}
 use Rattle.steps.specs.Work.{Ready}
 use Rattle.steps.specs.Round.{Gathered, bodyIn, headTruth, join}
@@ -39,44 +41,48 @@ module _ (x y : ℕ) (m : x ≡ 1 → ⊥) (n : x ≡ 2 → ⊥) where
       rest (suc (suc (suc y))) e = refl
 
 -- the loop over the rules
-module _ (b L K D : List ℕ) (F : Ready b) where
-  pub gathered-none : Gathered b L K D (replicate 2048 2) 0
+module _ (b L D : List ℕ) (F : Ready b) where
+  pub gathered-none : Gathered b L D (replicate 2048 2) 0
   unfolding headTruth
   gathered-none = record {
     long = length-replicate {A = ℕ} 2048 2;
     truths = λ a l _. ap truthOf (getD-replicate 2048 a 2 0 (omega (arith, l, few b F)));
   }
 
-  module _ (best : List ℕ) (k h : ℕ) (e : h ≡ ruleIn b k .head) (G : Gathered b L K D best k) where
+  module _ (best : List ℕ) (k h : ℕ) (e : h ≡ ruleIn b k .head) (G : Gathered b L D best k) where
     -- the rule concludes another atom
-    other : (a : ℕ) → (h ≡ a → ⊥) → headTruth b L K a (k + 1) ≡ headTruth b L K a k
+    other : (a : ℕ) → (h ≡ a → ⊥) → headTruth b L a (k + 1) ≡ headTruth b L a k
     unfolding headTruth
     other a m = rw (add-one, ne-eqb (ruleIn b k .head) a (λ z. m (e ∙ z)))
 
     -- or this one
-    own : (x : ℕ) → h < countOf b 1 → x ≡ codeOf (bodyIn b L K k) → (getD D h 0 ≡ 0 → ⊥) →
-        join (truthOf (getD best h 0)) (truthOf x) ≡ headTruth b L K h (k + 1)
+    own : (x : ℕ) → h < countOf b 1 → x ≡ codeOf (bodyIn b L k) → (getD D h 0 ≡ 0 → ⊥) →
+        join (truthOf (getD best h 0)) (truthOf x) ≡ headTruth b L h (k + 1)
     unfolding headTruth
     own x l p t =
-        ap₂ {C = Truth} join (G .truths h l t) (ap truthOf p ∙ code-back (bodyIn b L K k)) ∙
+        ap₂ {C = Truth} join (G .truths h l t) (ap truthOf p ∙ code-back (bodyIn b L k)) ∙
         rw (add-one, eq-eqb (ruleIn b k .head) h (sym e))
 
-    pub gathered-more : (v x : ℕ) → h < countOf b 1 → x ≡ codeOf (bodyIn b L K k) →
+    pub gathered-more : (v x : ℕ) → h < countOf b 1 → x ≡ codeOf (bodyIn b L k) →
         truthOf v ≡ join (truthOf (getD best h 0)) (truthOf x) → (getD D h 0 ≡ 0 → ⊥) →
-        Gathered b L K D (set best h v) (k + 1)
+        Gathered b L D (set best h v) (k + 1)
     gathered-more v x l p q t = record {
       long = length-set best h v ∙ G .long;
       truths = λ a m s. by-cases (ℕ-discrete h a)
-          (λ w. subst (λ (c : ℕ). truthOf (getD (set best h v) c 0) ≡ headTruth b L K c (k + 1)) w
+          (λ w. subst (λ (c : ℕ). truthOf (getD (set best h v) c 0) ≡ headTruth b L c (k + 1)) w
           (ap truthOf (getD-set-same best h v 0 (omega (arith, l, few b F, G .long))) ∙ q ∙ own x l p t))
           (λ w. ap truthOf (getD-set-other best h a v 0 (λ z. w (sym z))) ∙ G .truths a m s ∙ sym (other a w));
     }
 
-    pub gathered-other : getD D h 0 ≡ 0 → Gathered b L K D best (k + 1)
+    pub gathered-other : getD D h 0 ≡ 0 → Gathered b L D best (k + 1)
     gathered-other f = record {
       long = G .long;
       truths = λ a m s. G .truths a m s ∙ sym (other a (λ w. s (rw w at f)));
     }
+
+-- no comparison is asked for at first
+pub asked-first : (b L : List ℕ) → Ready b → Asked b L (replicate 512 3)
+asked-first b L F = asked-none b L (F .framed)
 
 -- a head is an atom, and atoms fit the array
 pub head-there : (b : List ℕ) (k m h : ℕ) → Ready b → m ≡ countOf b 2 → k < m → h ≡ ruleIn b k .head → h < countOf b 1
@@ -89,11 +95,13 @@ head-fits b k m h best F z e l q = omega (arith, head-there b k m h F e l q, few
 pub head-small : (b : List ℕ) (k m h : ℕ) → Ready b → m ≡ countOf b 2 → k < m → h ≡ ruleIn b k .head → h < 2048
 head-small b k m h F e l q = omega (arith, head-there b k m h F e l q, few b F)
 
-pub gathered-all : (b L K D best : List ℕ) (k m : ℕ) → m ≡ countOf b 2 → k ≤ m → m ≤ k →
-    Gathered b L K D best k → Gathered b L K D best (countOf b 2)
-gathered-all b L K D best k m e l o G = let q : k ≡ countOf b 2 = omega (arith, e, l, o) in rw (← q) G
+pub gathered-all : (b L D best : List ℕ) (k m : ℕ) → m ≡ countOf b 2 → k ≤ m → m ≤ k →
+    Gathered b L D best k → Gathered b L D best (countOf b 2)
+gathered-all b L D best k m e l o G = let q : k ≡ countOf b 2 = omega (arith, e, l, o) in rw (← q) G
 
 pub ruleset gathering = (
+  asked-first,
+  asked-long,
   gathered-none,
   gathered-more,
   gathered-other,

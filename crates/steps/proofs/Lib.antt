@@ -1,8 +1,6 @@
 -- Laws of this crate, in reading order.
 -- answers held in memory: read, written, the first of them alone
 pub mod WorkLaws
--- the truths of all comparisons
-pub mod KnownLaws
 -- what a round may do to each atom
 pub mod DueLaws
 -- the loop that gathers

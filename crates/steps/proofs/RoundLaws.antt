@@ -14,7 +14,7 @@ use Rattle.meaning.specs.Format.{countOf}
 use Rattle.meaning.specs.Reading.{truthOf}
 use Rattle.meaning.specs.Model.{next, round, unfounded}
 use Rattle.judge.specs.Held.{held}
-use Rattle.steps.specs.Work.{Exact, Known, Ready, answersIn, levelsIn, rulesIn}
+use Rattle.steps.specs.Work.{Exact, Ready, answersIn, levelsIn, rulesIn}
 use Rattle.steps.specs.Due.{Due}
 use Rattle.steps.specs.Strike.{Ended}
 use Rattle.steps.specs.Round.{Gathered, Judged, Settled, Turn}
@@ -23,17 +23,16 @@ use Rattle.steps.proofs.HeadLaws.{head-derived, head-refuted}
 use Rattle.steps.proofs.SettleLaws.{next-is}
 
 -- what has been gathered from all rules is what steps (a) and (b) ask
-gathered-judged : (b L K D best : List ℕ) → Ready b → Known b L K → Gathered b L K D best (countOf b 2) →
-    Judged b L D best
-gathered-judged b L K D best F N G = record {
-  rises = λ a l p. ap isTrue (G .truths a l p) ∙ head-derived b L K a F N;
-  sinks = λ a l p. ap isFalse (G .truths a l p) ∙ head-refuted b L K a F N;
+gathered-judged : (b L D best : List ℕ) → Gathered b L D best (countOf b 2) → Judged b L D best
+gathered-judged b L D best G = record {
+  rises = λ a l p. ap isTrue (G .truths a l p) ∙ head-derived b L a;
+  sinks = λ a l p. ap isFalse (G .truths a l p) ∙ head-refuted b L a;
 }
 
 -- what has been written at all atoms is the model's round
-module _ (b : List ℕ) (n : ℕ) (L D K best W now : List ℕ) (c : Bool) (S : Settled L D best W now c (length L))
-    (F : Ready b) (s : length L ≡ countOf b 1) (d : Due b n L D) (N : Known b L K)
-    (G : Gathered b L K D best (countOf b 2)) (E : Exact b n L W) where
+module _ (b : List ℕ) (n : ℕ) (L D best W now : List ℕ) (c : Bool) (S : Settled L D best W now c (length L))
+    (F : Ready b) (s : length L ≡ countOf b 1) (d : Due b n L D) (G : Gathered b L D best (countOf b 2))
+    (E : Exact b n L W) where
   abbrev step : ℕ → Truth → Truth
   step = next (rulesIn b) (levelsIn b) n (answersIn L) (unfounded (rulesIn b) (levelsIn b) n (answersIn L))
 
@@ -54,7 +53,7 @@ module _ (b : List ℕ) (n : ℕ) (L D K best W now : List ℕ) (c : Bool) (S : 
       (record {
         long = S .long;
         answers = λ a l. S .answers a (omega (arith, l, s)) ∙
-            next-is b n L D best W d (gathered-judged b L K D best F N G) E a l;
+            next-is b n L D best W d (gathered-judged b L D best G) E a l;
       })
 
   same-round : c ≡ false → answersIn (take (countOf b 1) now) ≡ answersIn L
@@ -113,8 +112,8 @@ module _ (b L D W Z : List ℕ) (n : ℕ) (E : Ended b L D W) (d : Due b n L D) 
   pub back-long : length (take (length L) (W ++ Z)) ≡ length L
   back-long = rw front long
 
-pub gathered-long : (b L K D best : List ℕ) (k : ℕ) → Gathered b L K D best k → length best ≡ 2048
-gathered-long b L K D best k G = G .long
+pub gathered-long : (b L D best : List ℕ) (k : ℕ) → Gathered b L D best k → length best ≡ 2048
+gathered-long b L D best k G = G .long
 
 pub due-long : (b : List ℕ) (n : ℕ) (L D : List ℕ) → Due b n L D → length D ≡ 2048
 due-long b n L D d = d .long

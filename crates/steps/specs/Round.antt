@@ -9,9 +9,10 @@ use lib.ListN.{length, getD, take}
 use Rattle.theory.specs.Truth.{Truth, isFalse, isTrue}
 use Rattle.meaning.specs.Format.{countOf}
 use Rattle.meaning.specs.Reading.{truthOf}
+use Rattle.meaning.specs.Truth.{bodyTruth}
 use Rattle.meaning.specs.Model.{answersOf, derived, refuted, round}
-use Rattle.book.specs.Records.{ruleIn}
-use Rattle.judge.specs.Held.{held, recordsTruth, ruleRecords}
+use Rattle.book.specs.Records.{ruleIn, ruleRead}
+use Rattle.judge.specs.Held.{held}
 use Rattle.steps.specs.Work.{answersIn, levelsIn, rulesIn}
 
 -- one of two is true, or both are false
@@ -20,20 +21,20 @@ join Truth.undefined y = cond (isTrue y) Truth.true Truth.undefined
 join Truth.true y = Truth.true
 join Truth.false y = y
 
--- the body of rule r, the comparisons' truths being known
-abbrev pub bodyIn : List ℕ → List ℕ → List ℕ → ℕ → Truth
-bodyIn b L K r = recordsTruth (held L) (held K) (ruleRecords b r)
+-- the body of rule r
+abbrev pub bodyIn : List ℕ → List ℕ → ℕ → Truth
+bodyIn b L r = bodyTruth (held L) (ruleRead b r .body)
 
 -- the first k rules that conclude a: true if one body is true, false if all are false
-unfoldable pub headTruth : List ℕ → List ℕ → List ℕ → ℕ → ℕ → Truth
-headTruth b L K a zero = Truth.false
-headTruth b L K a (suc k) =
-    cond (eqb (ruleIn b k .head) a) (join (headTruth b L K a k) (bodyIn b L K k)) (headTruth b L K a k)
+unfoldable pub headTruth : List ℕ → List ℕ → ℕ → ℕ → Truth
+headTruth b L a zero = Truth.false
+headTruth b L a (suc k) =
+    cond (eqb (ruleIn b k .head) a) (join (headTruth b L a k) (bodyIn b L k)) (headTruth b L a k)
 
 -- what has been gathered from the first k rules for the atoms to which a step is due
-pub record Gathered (b L K D best : List ℕ) (k : ℕ) : Type 0 where
+pub record Gathered (b L D best : List ℕ) (k : ℕ) : Type 0 where
   pub long : length best ≡ 2048
-  pub truths : (a : ℕ) → a < countOf b 1 → (getD D a 0 ≡ 0 → ⊥) → truthOf (getD best a 0) ≡ headTruth b L K a k
+  pub truths : (a : ℕ) → a < countOf b 1 → (getD D a 0 ≡ 0 → ⊥) → truthOf (getD best a 0) ≡ headTruth b L a k
 
 -- the same for all rules, in the words of steps (a) and (b)
 pub record Judged (b L D best : List ℕ) : Type 0 where

@@ -8,14 +8,14 @@ use lib.Dec.{eqb}
 use lib.ListN.{length, getD}
 use Rattle.laws.proofs.Counting.{number}
 use Rattle.theory.specs.Truth.{Truth, isFalse, isUndefined}
-use Rattle.theory.specs.Answers.{Answers, Atoms, _⊑_, wipe}
+use Rattle.theory.specs.Answers.{Atoms, _⊑_, wipe}
 use Rattle.meaning.specs.Format.{countOf}
 use Rattle.meaning.specs.Reading.{truthOf}
-use Rattle.meaning.specs.Truth.{bodyTruth, comparisonTruth}
+use Rattle.meaning.specs.Truth.{bodyTruth}
 use Rattle.meaning.specs.Model.{candidate}
 use Rattle.meaning.specs.Founded.{Unfounded}
-use Rattle.book.specs.Records.{comparisonRead, hypothesisIn, ruleIn, ruleRead}
-use Rattle.judge.specs.Held.{held, recordTruth}
+use Rattle.book.specs.Records.{hypothesisIn, ruleIn, ruleRead}
+use Rattle.judge.specs.Held.{freshAt, held, recordTruth}
 use Rattle.steps.specs.Work.{Exact, levelsIn, rulesIn}
 use Rattle.steps.specs.Due.{Due}
 
@@ -45,10 +45,7 @@ unfoldable pub strikesAt : (b L W : List ℕ) → ℕ → Bool
 strikesAt b L W r =
     onlyAssumed L W (ruleIn b r .head) && not (isFalse (bodyTruth (held W) (ruleRead b r .body)))
 
--- the truth of each comparison at what is assumed, and of hypothesis h
-abbrev pub freshAt : List ℕ → List ℕ → Answers
-freshAt b W c = comparisonTruth (held W) (comparisonRead b c)
-
+-- hypothesis h is false at what is assumed
 unfoldable pub failsAt : List ℕ → List ℕ → ℕ → Bool
 failsAt b W h = isFalse (recordTruth (held W) (freshAt b W) (hypothesisIn b h))
 

@@ -1,18 +1,14 @@
--- The answers under work: bytes read as answers, the truths of comparisons at them, and the answers that step (c)
--- assumes.
--- Assumes nothing.
+-- The answers under work: bytes read as answers, and the answers that step (c) assumes. Assumes nothing.
 use mathlib.Core.Path.{_≡_}
 use mathlib.Core.List.{List, map}
-use Prim.Native.Nat.{ℕ, _<_, _≤_}
+use Prim.Native.Nat.{ℕ}
 use lib.ListN.{length}
 use Rattle.theory.specs.Truth.{Truth}
 use Rattle.theory.specs.Answers.{wipe}
-use Rattle.meaning.specs.Format.{countOf, tables}
+use Rattle.meaning.specs.Format.{tables}
 use Rattle.meaning.specs.Reading.{Reading, levelsOf, reading, truthOf}
-use Rattle.meaning.specs.Truth.{comparisonTruth}
 use Rattle.meaning.specs.Model.{membersOf, unfounded}
 use Rattle.book.specs.Framed.{Framed, Indexed}
-use Rattle.book.specs.Records.{comparisonRead}
 use Rattle.judge.specs.Held.{held}
 
 -- a book that can be worked on
@@ -30,11 +26,6 @@ levelsIn b = levelsOf (tables b)
 -- bytes as a list of answers
 abbrev pub answersIn : List ℕ → List Truth
 answersIn L = map truthOf L
-
--- K holds the truth of each comparison at the answers L
-pub record Known (b L K : List ℕ) : Type 0 where
-  pub long : countOf b 4 ≤ length K
-  pub truths : (c : ℕ) → c < countOf b 4 → held K c ≡ comparisonTruth (held L) (comparisonRead b c)
 
 -- W is L with the greatest unfounded set of level n counted as false
 pub record Exact (b : List ℕ) (n : ℕ) (L W : List ℕ) : Type 0 where

@@ -1,6 +1,5 @@
 // Steps (a) and (b): for each atom that a round may decide, the truth of the rules that conclude it.
 ghost use mathlib.Core.Path.{_≡_};
-ghost use Prim.Native.Nat.{_≤_};
 ghost use lib.ListN.{length};
 ghost use Rattle.meaning.specs.Format.{countOf};
 ghost use Rattle.meaning.specs.Reading.{truthOf};
@@ -23,13 +22,13 @@ fn joined(best: u8, body: u8) -> u8
 
 // All rules once: 2 where every body is false, 1 where one is true, else 0. Atoms to which no step is due are passed
 // over.
-pub fn gather(book: &[u8], answers: &[u8], known: &[u8], due: &[u8]) -> [u8; 2048]
-    requires { ⌜ Ready (now book) × (length (now answers) ≡ countOf (now book) 1)
-        × (countOf (now book) 4 ≤ length (now known)) × (length (now due) ≡ 2048) ⌝ }
-    ensures { λ r. ⌜ Gathered (now (book .entry)) (now (answers .entry)) (now (known .entry)) (now (due .entry)) r
+pub fn gather(book: &[u8], answers: &[u8], due: &[u8]) -> [u8; 2048]
+    requires { ⌜ Ready (now book) × (length (now answers) ≡ countOf (now book) 1) × (length (now due) ≡ 2048) ⌝ }
+    ensures { λ r. ⌜ Gathered (now (book .entry)) (now (answers .entry)) (now (due .entry)) r
         (countOf (now (book .entry)) 2) ⌝ }
 {
     let m = count_of(book, 2);
+    let mut known = [3u8; 512];
     let mut best = [2u8; 2048];
     let mut k = 0;
     while k < m {
@@ -37,7 +36,7 @@ pub fn gather(book: &[u8], answers: &[u8], known: &[u8], due: &[u8]) -> [u8; 204
         k += 1;
         let h = rule_head(book, r);
         if due[h] != 0 {
-            best[h] = joined(best[h], body(book, answers, known, r));
+            best[h] = joined(best[h], body(book, answers, &mut known, r));
         }
     }
     best

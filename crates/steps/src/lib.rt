@@ -5,4 +5,3 @@ pub mod gather;
 pub mod round;
 pub mod settle;
 pub mod strike;
-pub mod truths;

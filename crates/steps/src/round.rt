@@ -8,7 +8,6 @@ use crate::due::due;
 use crate::gather::gather;
 use crate::settle::settle;
 use crate::strike::unfounded;
-use crate::truths::truths;
 
 // The answers after a round, whether it changed one, and how many rules are remembered.
 pub struct Turned {
@@ -24,8 +23,7 @@ pub fn round(book: &[u8], level: usize, before: &[u8], order: &mut [u16], used: 
 {
     let n = before.len();
     let due = due(book, before, level);
-    let known = truths(book, before);
-    let best = gather(book, before, &known, &due);
+    let best = gather(book, before, &due);
     let mut assumed = [0u8; 2048];
     let end = unfounded(book, before, &due, &mut assumed[..n], order, used);
     let settled = settle(before, &due, &best, &assumed[..n]);

@@ -9,4 +9,4 @@ hypothesis-spec =
     tie.close
     (tie.spec (λ c κs. search needs) (λ c κs. search needs) (λ c κs. search (needs, sorts))
     (λ c κs. search (needs, sorts)) (λ c κs. search (needs, sorts)) (λ c. search (needs, sorts))
-    (λ c. search (needs, sorts)) (λ c. search (needs, sorts)))
+    (λ c. search (needs, sorts)) (λ c. search needs) (λ c. search (needs, sorts)))

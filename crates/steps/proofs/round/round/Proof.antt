@@ -11,8 +11,7 @@ use Rattle.steps.proofs.round.round.Tie as tie
 slice-aggregate-unfounded-2 : tie.Need-slice-aggregate-unfounded-2
 slice-aggregate-unfounded-2 c =
     let gathered = c .before .before in
-    let known = gathered .before .before .before in
-    let started = known .before in
+    let started = gathered .before .before in
     let start = started .before .before .before in
     let given = start .before .pre in
     lent-count _ (now (start .before .args .before)) (given .0) (given .1) (replicate 2048 0)
@@ -24,8 +23,7 @@ slice-aggregate-settle-3 c =
     let lent = c .before .before .before in
     let ended = lent .before .before .before in
     let gathered = ended .before .before .before in
-    let known = gathered .before .before .before in
-    let started = known .before .before in
+    let started = gathered .before .before .before in
     back-count _ _ _ _ _ _ (ended .unfounded .ensures) (started .due .ensures)
 
 settle-requires : tie.Need-settle-requires
@@ -33,8 +31,7 @@ settle-requires c κs =
     let lent = c .before .before .before in
     let ended = lent .before .before .before in
     let gathered = ended .before .before .before in
-    let known = gathered .before .before .before in
-    let started = known .before .before in (
+    let started = gathered .before .before .before in (
       search (needs, turn-round),
       search (needs, turn-round),
       search (needs, turn-round),
@@ -49,20 +46,18 @@ returns c =
     let ended = taken .before in
     let assumed = ended .before .before .before in
     let gathered = assumed .before in
-    let known = gathered .before .before .before in
-    let started = known .before in
+    let started = gathered .before .before in
     let start = started .before .before .before in
     let given = start .before .pre in
-    turned _ _ _ _ _ _ _ _ _ (settled .settle .ensures) (given .0) (given .1) (started .due .ensures)
-    (known .truths .ensures) (gathered .gather .ensures)
+    turned _ _ _ _ _ _ _ _ (settled .settle .ensures) (given .0) (given .1) (started .due .ensures)
+    (gathered .gather .ensures)
     (back-exact _ _ _ _ _ _ (ended .unfounded .ensures) (started .due .ensures))
 
 pub round-spec : {M : Type 1} → statement M
 round-spec =
     tie.close
-    (tie.spec (λ c κs. search (needs, turn-round)) (λ c κs. search (needs, turn-round))
-    (λ c. search (needs, turn-round)) (λ c. search (needs, turn-round)) (λ c κs. search (needs, turn-round))
-    (λ c. search (needs, turn-round)) (λ c. search (needs, turn-round)) slice-aggregate-unfounded-2
+    (tie.spec (λ c κs. search (needs, turn-round)) (λ c. search (needs, turn-round))
     (λ c κs. search (needs, turn-round)) (λ c. search (needs, turn-round)) (λ c. search (needs, turn-round))
-    (λ c. search (needs, turn-round)) slice-aggregate-settle-3 settle-requires (λ c. search (needs, turn-round))
-    returns)
+    slice-aggregate-unfounded-2 (λ c κs. search (needs, turn-round)) (λ c. search (needs, turn-round))
+    (λ c. search (needs, turn-round)) (λ c. search (needs, turn-round)) slice-aggregate-settle-3 settle-requires
+    (λ c. search (needs, turn-round)) returns)
