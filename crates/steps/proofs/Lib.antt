@@ -15,7 +15,11 @@ pub mod FailLaws
 pub mod StrikeLaws
 -- passes over the rules
 pub mod PassLaws
+-- turns until the end
+pub mod TurnLaws
 -- the loop that writes
 pub mod SettleLaws
+-- what it writes is the model's next answer
+pub mod NextLaws
 -- a round of the code is a round of the model
 pub mod RoundLaws

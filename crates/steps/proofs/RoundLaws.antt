@@ -20,7 +20,7 @@ use Rattle.steps.specs.Strike.{Ended}
 use Rattle.steps.specs.Round.{Gathered, Judged, Settled, Turn}
 use Rattle.steps.proofs.WorkLaws.{few, written-all}
 use Rattle.steps.proofs.HeadLaws.{head-derived, head-refuted}
-use Rattle.steps.proofs.SettleLaws.{next-is}
+use Rattle.steps.proofs.NextLaws.{next-is}
 
 -- what has been gathered from all rules is what steps (a) and (b) ask
 gathered-judged : (b L D best : List ℕ) → Gathered b L D best (countOf b 2) → Judged b L D best

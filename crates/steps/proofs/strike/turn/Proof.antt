@@ -1,7 +1,7 @@
 -- `strike::turn` meets its contract. Assumes nothing.
 use borrow.Author.Needs.{needs}
 use Prim.Native.Nat.{_-_}
-use Rattle.steps.proofs.PassLaws.{turning}
+use Rattle.steps.proofs.TurnLaws.{turning}
 use Rattle.steps.proofs.strike.turn.Statement.{statement}
 use Rattle.steps.proofs.strike.turn.Tie as tie
 

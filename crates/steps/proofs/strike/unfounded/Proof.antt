@@ -6,7 +6,7 @@ use lib.ListN.{length}
 use Rattle.laws.specs.Lists.{anyTo}
 use Rattle.meaning.specs.Format.{countOf}
 use Rattle.steps.specs.Strike.{Stands, falses, onlyAssumed}
-use Rattle.steps.proofs.PassLaws.{turn-ended, turn-settled, turns}
+use Rattle.steps.proofs.TurnLaws.{turn-ended, turn-settled, turns}
 use Rattle.steps.proofs.strike.unfounded.Statement.{statement}
 use Rattle.steps.proofs.strike.unfounded.Tie as tie
 
