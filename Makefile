@@ -3,7 +3,7 @@ LIBRARY := target/staticlib/libengine.a
 SECOND := --manifest-path second/Cargo.toml
 BUILD_SECOND := cargo build --quiet --release --offline --locked $(SECOND) --target-dir target/second
 
-.PHONY: test library listing run host compare bench
+.PHONY: test library listing run host compare bench count
 
 # make test: the layout, the library as C has it, the listing program, the comparison with the second program, and last
 # every crate proved from nothing and every must-fail edit refused. The last line is rt ci's own.
@@ -48,3 +48,8 @@ compare: library
 bench: library
 	@$(BUILD_SECOND)
 	@target/second/release/bench
+
+# make count: the same books by instructions, which are the same in every run. Needs valgrind.
+count: library
+	@$(BUILD_SECOND)
+	@second/count
