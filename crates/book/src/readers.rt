@@ -10,7 +10,7 @@ ghost use Rattle.book.specs.Framed.{Framed, Place};
 // Bytes of a record of the tables 1 to 6.
 const SIZES: [usize; 6] = [2, 3, 6, 3, 10, 7];
 
-fn wide(x: u8) -> usize
+fn widen(x: u8) -> usize
     ensures { λ r. ⌜ (r ≡ x) × (r < 256) ⌝ }
 {
     x as usize
@@ -20,7 +20,7 @@ pub(crate) fn byte(book: &[u8], i: usize) -> usize
     requires { ⌜ i < length (now book) ⌝ }
     ensures { λ r. ⌜ (r ≡ u8At (now (book .entry)) i) × (r < 256) ⌝ }
 {
-    wide(book[i])
+    widen(book[i])
 }
 
 pub(crate) fn word(book: &[u8], i: usize) -> usize
@@ -83,7 +83,7 @@ pub(crate) fn place(book: &[u8], k: usize, i: usize) -> usize
     offset_of(book, k) + size_of(k) * i
 }
 
-// Numbers that are known to be small, in fewer bits: the number of a check, a table or a record, or a code.
+// Numbers that are known to be small, in fewer bits, and back: the number of a check, a table or a record, or a code.
 pub fn narrow(x: usize) -> u8
     requires { ⌜ x < 256 ⌝ }
     ensures { λ r. ⌜ r ≡ x ⌝ }
@@ -96,4 +96,10 @@ pub fn short(x: usize) -> u16
     ensures { λ r. ⌜ r ≡ x ⌝ }
 {
     x as u16
+}
+
+pub fn wide(x: u16) -> usize
+    ensures { λ r. ⌜ r ≡ x ⌝ }
+{
+    x as usize
 }

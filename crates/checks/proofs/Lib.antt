@@ -3,8 +3,6 @@
 pub mod VerdictLaws
 -- searches for the lowest record at fault
 pub mod LowestLaws
--- an array after a store
-pub mod StoreLaws
 -- checks 1 to 3
 pub mod FrameLaws
 -- checks 4 and 5

@@ -7,8 +7,8 @@ use native.Mathlib.Decide.{decLt}
 use native.Mathlib.Nat.{eq-or-lt-of-le}
 use native.Mathlib.Omega.{arith}
 use lib.ListN.{length, getD, getD-replicate, length-replicate, length-set, replicate, set}
+use Rattle.laws.proofs.Stores.{stored}
 use Rattle.book.specs.Records.{elementIn}
-use Rattle.checks.proofs.StoreLaws.{stored}
 
 pub same-atom : (b : List ℕ) (x y : ℕ) → x ≡ y → elementIn b x .atom ≡ elementIn b y .atom
 same-atom b x y e = rw e

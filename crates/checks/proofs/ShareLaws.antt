@@ -8,6 +8,7 @@ use native.Mathlib.Decide.{decLe, decLt}
 use native.Mathlib.Omega.{arith}
 use lib.ListN.{length, length-replicate, length-set, replicate, set}
 use borrow.Author.Tests.{ne-eqb}
+use Rattle.laws.proofs.Stores.{stored}
 use Rattle.meaning.specs.Format.{countOf}
 use Rattle.meaning.specs.Reading.{isCertain}
 use Rattle.meaning.specs.Refusal.{Use}
@@ -15,7 +16,6 @@ use Rattle.book.specs.Framed.{Framed}
 use Rattle.book.specs.Records.{comparisonIn, elementIn, kindRead, levelRead}
 use Rattle.checks.specs.Uses.{signPositive}
 use Rattle.checks.specs.Shares.{Largest, Mark, MarksTo, limitIn, mattersIn, shareIn, shareOf}
-use Rattle.checks.proofs.StoreLaws.{stored}
 use Rattle.checks.proofs.ElementLaws.{used-is}
 
 -- one use, by its check

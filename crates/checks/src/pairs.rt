@@ -6,13 +6,13 @@ ghost use Rattle.meaning.specs.Refusal.{refusal6};
 ghost use Rattle.book.specs.Framed.{Framed, Indexed};
 ghost use Rattle.checks.specs.Verdicts.{verdictOf};
 use crate::numbers::larger;
-use crate::numbers::wide;
 use crate::verdict::Verdict;
 use book::fields::comparison_first;
 use book::fields::comparison_many;
 use book::fields::element_atom;
 use book::readers::count_of;
 use book::readers::short;
+use book::readers::wide;
 
 // 6: comparisons, elements and later elements, left at the first pair. The comparison reached is then the place.
 pub(crate) fn check_pairs(book: &[u8]) -> Verdict

@@ -10,7 +10,6 @@ ghost use Rattle.book.specs.Framed.{Framed, Indexed};
 ghost use Rattle.checks.specs.Uses.{comparisonFault, hypothesisFault, idleIn, ruleFault, ruleRefusal, useFault};
 ghost use Rattle.checks.specs.Shares.{Lower, MarksTo, Ranked};
 ghost use Rattle.checks.specs.Verdicts.{verdictOf};
-use crate::numbers::wide;
 use crate::shares::limit_in;
 use crate::shares::marks;
 use crate::verdict::Verdict;
@@ -24,6 +23,7 @@ use book::fields::rule_many;
 use book::readers::count_of;
 use book::readers::narrow;
 use book::readers::short;
+use book::readers::wide;
 
 // Is the use at fault in this check?
 fn use_fault(book: &[u8], check: usize, head: usize, atom: usize, positive: bool) -> bool

@@ -1,12 +1,10 @@
 -- The truths of the comparisons that were asked for. Assumes nothing.
 use mathlib.Core.Path.{_≡_, _∙_}
-use mathlib.Core.Logic.{by-cases}
 use mathlib.Core.List.{List}
 use Prim.Native.Nat.{ℕ, _<_}
-use native.Mathlib.Decide.{ℕ-discrete}
 use native.Mathlib.Omega.{arith}
 use lib.ListN.{length, getD, getD-replicate, length-replicate, length-set, replicate, set}
-use lib.Seq.{getD-set-other, getD-set-same}
+use Rattle.laws.proofs.Stores.{stored}
 use Rattle.meaning.specs.Format.{countOf}
 use Rattle.meaning.specs.Reading.{codeOf}
 use Rattle.book.specs.Framed.{Framed}
@@ -30,9 +28,9 @@ module _ (b W K : List ℕ) (c : ℕ) (k : Asked b W K) (l : c < countOf b 4) wh
   pub asked-more : (v : ℕ) → v ≡ codeOf (freshAt b W c) → Framed b → Asked b W (set K c v)
   asked-more v e F = record {
     long = length-set K c v ∙ k .long;
-    truths = λ i m n. by-cases (ℕ-discrete i c)
-        (λ q. rw q (getD-set-same K c v 0 (asked-room F) ∙ e))
-        (λ q. getD-set-other K c i v 0 q ∙ k .truths i m (λ z. n (getD-set-other K c i v 0 q ∙ z)));
+    truths = λ i m.
+        stored (λ x. (x ≡ 3 → ⊥) → x ≡ codeOf (freshAt b W i)) K c i v (asked-room F) (λ q _. rw (← q) e)
+        (λ _. k .truths i m);
   }
 
 pub asked-long : (b W K : List ℕ) → Asked b W K → length K ≡ 512

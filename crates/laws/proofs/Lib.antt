@@ -7,6 +7,8 @@ pub mod Entries
 pub mod Searches
 -- entries by their place
 pub mod Places
+-- an entry after a store
+pub mod Stores
 -- a function repeated until nothing changes
 pub mod Repeats
 -- parts of lists

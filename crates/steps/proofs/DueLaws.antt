@@ -1,16 +1,14 @@
 -- What a round may do to each atom: the steps for a kind, the loop that writes them down, and what they say.
 -- Assumes nothing.
-use mathlib.Core.Path.{_≡_, refl, sym, ap, _∙_, subst}
-use mathlib.Core.Logic.{by-cases}
+use mathlib.Core.Path.{_≡_, refl, sym, ap, _∙_}
 use mathlib.Core.Bool.{Bool, true, false}
 use mathlib.Core.List.{List}
 use Prim.Native.Nat.{ℕ, zero, suc, _+_, _<_, _≤_}
-use native.Mathlib.Decide.{decLt}
 use native.Mathlib.Omega.{arith}
 use lib.Dec.{eqb, leb}
 use lib.ListN.{length, getD, length-replicate, length-set, replicate, set}
-use lib.Seq.{getD-set-other, getD-set-same}
 use borrow.Author.Tests.{eq-eqb, ne-eqb}
+use Rattle.laws.proofs.Stores.{stored}
 use Rattle.theory.specs.Truth.{Truth, isUndefined}
 use Rattle.meaning.specs.Format.{countOf}
 use Rattle.meaning.specs.Reading.{Kind, codeOf, isClosed, isComplete, kindOf}
@@ -88,11 +86,9 @@ module _ (b : List ℕ) (n : ℕ) (L : List ℕ) where
         DueTo b n L (set D a v) (a + 1)
     due-more v e R size l = record {
       long = length-set D a v ∙ d .long;
-      steps = λ j m. by-cases (decLt j a)
-          (λ o. getD-set-other D a j v 0 (λ z. omega (arith, o, z)) ∙ d .steps j o)
-          (λ o. let q : a ≡ j = omega (arith, m, o) in
-          subst (λ (c : ℕ). getD (set D a v) c 0 ≡ dueIn b n L c) q
-          (getD-set-same D a v 0 (omega (arith, l, size, few b R, d .long)) ∙ e));
+      steps = λ j m.
+          stored (λ x. x ≡ dueIn b n L j) D a j v (omega (arith, l, size, few b R, d .long)) (λ q. rw (← q) e)
+          (λ o. d .steps j (omega (arith, m, o)));
     }
 
     pub due-all : length L ≡ countOf b 1 → length L ≤ a → Due b n L D

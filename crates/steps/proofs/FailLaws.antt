@@ -1,16 +1,15 @@
 -- Which rules have a false body at what is assumed: by their hypotheses one after the other, with comparisons judged
 -- when they are asked for. Assumes nothing.
 use mathlib.Core.Path.{_≡_, refl, sym, ap, _∙_}
-use mathlib.Core.Logic.{by-cases}
 use mathlib.Core.Bool.{Bool, true, false, not, _||_}
 use mathlib.Core.List.{List, [], _∷_}
 use Prim.Native.Nat.{ℕ, _+_, _<_, _≤_}
-use native.Mathlib.Decide.{ℕ-discrete}
 use native.Mathlib.Omega.{arith}
 use lib.Dec.{eqb}
 use lib.ListN.{length, getD, getD-replicate, length-replicate, length-set, replicate, set}
-use lib.Seq.{getD-set-other, getD-set-same, length-slice}
+use lib.Seq.{length-slice}
 use borrow.Author.Tests.{le-ltb}
+use Rattle.laws.proofs.Stores.{stored}
 use Rattle.laws.specs.Lists.{any, anyTo}
 use Rattle.laws.proofs.Tests.{fails-of}
 use Rattle.laws.proofs.Numbers.{any-end-read, any-found-read, any-next, any-start, any-to}
@@ -61,9 +60,8 @@ module _ (b W K : List ℕ) (c : ℕ) (l : c < countOf b 4) (k : Lags b W K) whe
       Lags b W (set K c v)
   lags-judged v R e = record {
     long = length-set K c v ∙ k .long;
-    falls = λ i m f. by-cases (ℕ-discrete i c)
-        (λ q. rw q (getD-set-same K c v 0 (comparison-room R) ∙ e ∙ ap codeOf (rw q at f)))
-        (λ q. getD-set-other K c i v 0 q ∙ k .falls i m f);
+    falls = λ i m f.
+        stored (λ x. x ≡ 2) K c i v (comparison-room R) (λ q. e ∙ ap codeOf (rw (← q) at f)) (λ _. k .falls i m f);
   }
 
   -- one that was found not to be false

@@ -1,14 +1,12 @@
 -- Gathering: what one rule more does to what has been gathered. Assumes nothing.
-use mathlib.Core.Path.{_≡_, refl, sym, ap, ap₂, _∙_, subst}
-use mathlib.Core.Logic.{by-cases}
+use mathlib.Core.Path.{_≡_, refl, sym, ap, ap₂, _∙_}
 use mathlib.Core.List.{List}
 use Prim.Native.Nat.{ℕ, zero, suc, _+_, _<_, _≤_}
-use native.Mathlib.Decide.{ℕ-discrete}
 use native.Mathlib.Numerals.{add-one}
 use native.Mathlib.Omega.{arith}
 use lib.ListN.{length, getD, length-replicate, length-set, getD-replicate, replicate, set}
-use lib.Seq.{getD-set-other, getD-set-same}
 use borrow.Author.Tests.{eq-eqb, ne-eqb}
+use Rattle.laws.proofs.Stores.{stored}
 use Rattle.theory.specs.Truth.{Truth}
 use Rattle.meaning.specs.Format.{countOf}
 use Rattle.meaning.specs.Reading.{codeOf, truthOf}
@@ -68,10 +66,9 @@ module _ (b L D : List ℕ) (F : Ready b) where
         Gathered b L D (set best h v) (k + 1)
     gathered-more v x l p q t = record {
       long = length-set best h v ∙ G .long;
-      truths = λ a m s. by-cases (ℕ-discrete h a)
-          (λ w. subst (λ (c : ℕ). truthOf (getD (set best h v) c 0) ≡ headTruth b L c (k + 1)) w
-          (ap truthOf (getD-set-same best h v 0 (omega (arith, l, few b F, G .long))) ∙ q ∙ own x l p t))
-          (λ w. ap truthOf (getD-set-other best h a v 0 (λ z. w (sym z))) ∙ G .truths a m s ∙ sym (other a w));
+      truths = λ a m s.
+          stored (λ y. truthOf y ≡ headTruth b L a (k + 1)) best h a v (omega (arith, l, few b F, G .long))
+          (λ w. rw (← w) (q ∙ own x l p t)) (λ w. G .truths a m s ∙ sym (other a w));
     }
 
     pub gathered-other : getD D h 0 ≡ 0 → Gathered b L D best (k + 1)

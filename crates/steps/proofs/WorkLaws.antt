@@ -1,6 +1,6 @@
 -- Answers held in memory: bytes read as answers, one of them written, the first of them alone, and all of them written
 -- one after the other. Assumes nothing.
-use mathlib.Core.Path.{_≡_, sym, ap, _∙_, fun-ext, subst}
+use mathlib.Core.Path.{_≡_, sym, ap, _∙_, fun-ext}
 use mathlib.Core.Logic.{by-cases}
 use mathlib.Core.List.{List, map}
 use Prim.Native.Nat.{ℕ, _+_, _<_, _≤_}
@@ -8,6 +8,7 @@ use native.Mathlib.Omega.{arith}
 use native.Mathlib.Decide.{decLt}
 use lib.ListN.{length, getD, length-map, length-replicate, length-set, replicate, set, take}
 use lib.Seq.{ext-getD, getD-set-other, getD-set-same, getD-take, length-take-le}
+use Rattle.laws.proofs.Stores.{stored}
 use Rattle.laws.proofs.Entries.{map-at}
 use Rattle.laws.proofs.Places.{getD-out}
 use Rattle.theory.specs.Truth.{Truth}
@@ -69,11 +70,9 @@ module _ (f : ℕ → Truth) where
       Written f (set now a v) (a + 1)
   written-more now a v W l e = record {
     long = length-set now a v ∙ W .long;
-    answers = λ j m. by-cases (decLt j a)
-        (λ o. ap truthOf (getD-set-other now a j v 0 (λ z. omega (arith, o, z))) ∙ W .answers j o)
-        (λ o. let q : a ≡ j = omega (arith, m, o) in
-        subst (λ (c : ℕ). truthOf (getD (set now a v) c 0) ≡ f c) q
-        (ap truthOf (getD-set-same now a v 0 (omega (arith, l, W .long))) ∙ e));
+    answers = λ j m.
+        stored (λ x. truthOf x ≡ f j) now a j v (omega (arith, l, W .long)) (λ q. rw (← q) e)
+        (λ n. W .answers j (omega (arith, m, n)));
   }
 
   -- all of them, as a list

@@ -18,6 +18,7 @@ use crate::fails::supports;
 use book::fields::rule_head;
 use book::readers::count_of;
 use book::readers::short;
+use book::readers::wide;
 use judge::literal::answer;
 use judge::literal::set_answer;
 
@@ -86,12 +87,6 @@ fn within(used: usize, room: usize) -> usize
     ensures { λ r. ⌜ r ≤ room ⌝ }
 {
     if used < room { used } else { room }
-}
-
-fn wide(x: u16) -> usize
-    ensures { λ r. ⌜ r ≡ x ⌝ }
-{
-    x as usize
 }
 
 // A first try: the rules of the order, which may hold anything.
