@@ -1,5 +1,5 @@
 # The engine's library, and the second program that is compared with it.
-LIBRARY := target/staticlib/libengine.a
+LIBRARY := target/staticlib/libdoughpillar.a
 SECOND := --manifest-path second/Cargo.toml
 BUILD_SECOND := cargo build --quiet --release --offline --locked $(SECOND) --target-dir target/second
 
@@ -20,7 +20,7 @@ library: $(LIBRARY)
 
 $(LIBRARY): crates.txt $(shell find crates)
 	@mkdir -p target
-	@rt staticlib engine > target/library.log 2>&1 || { cat target/library.log; exit 1; }
+	@rt staticlib doughpillar > target/library.log 2>&1 || { cat target/library.log; exit 1; }
 
 # make listing: proves the listing program and links it, if a crate has changed.
 listing: target/bin/listing

@@ -1,4 +1,4 @@
-/* The engine's one entry: answers or one numbered refusal for any book and any room. For C99 and C++. */
+/* The engine's entry: answers or one numbered refusal for any book and any room. For C99 and C++. */
 #ifndef DOUGHPILLAR_H
 #define DOUGHPILLAR_H
 
@@ -15,6 +15,10 @@ extern "C" {
    Returns 0 for an accepted book: room[a] is then one of the answers below, for each atom a, and later bytes stay.
    Returns a packed refusal otherwise, and no byte of the room has changed. */
 uint32_t doughpillar_answer(const uint8_t *book, size_t book_length, uint8_t *room, size_t room_length);
+
+/* How many atoms the book says that it has, read from its table of contents before any check: 0 for a book without one.
+   An accepted book has just so many. */
+uint32_t doughpillar_atoms(const uint8_t *book, size_t book_length);
 
 /* the answers */
 #define DOUGHPILLAR_UNDEFINED 0

@@ -3,6 +3,6 @@ fn main() {
     let here = std::env::var("CARGO_MANIFEST_DIR").expect("cargo names the package's folder");
     let folder = format!("{here}/../target/staticlib");
     println!("cargo:rustc-link-search=native={folder}");
-    println!("cargo:rustc-link-lib=static=engine");
-    println!("cargo:rerun-if-changed={folder}/libengine.a");
+    println!("cargo:rustc-link-lib=static=doughpillar");
+    println!("cargo:rerun-if-changed={folder}/libdoughpillar.a");
 }

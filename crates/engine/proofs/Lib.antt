@@ -7,7 +7,5 @@ pub mod RestLaws
 pub mod SolveLaws
 -- the room
 pub mod WriteLaws
--- the entry
-pub mod EntryLaws
--- the demands, of the entry
-pub mod EntryDemands
+-- the answers of a book
+pub mod AnswerLaws

@@ -1,5 +1,5 @@
-// Rounds, levels and the C entry.
-pub mod entry;
+// Rounds, levels, and the answers of a book.
+pub mod answer;
 pub mod levels;
 pub mod rounds;
 pub mod solve;

@@ -14,7 +14,7 @@ use crate::text::put_number;
 use crate::text::put_place;
 use crate::text::put_spaced;
 use book::readers::count_of;
-use engine::entry::doughpillar_answer;
+use engine::answer::answer;
 
 // The answer room is always long enough.
 const ROOM: usize = 2048;
@@ -97,7 +97,7 @@ pub fn list(book: &[u8], out: &mut [u8; TEXT]) -> usize
     ensures later { λ r. ⌜ drop r (now (out .exit)) ≡ drop r (now (out .entry)) ⌝ }
 {
     let mut room = [0u8; ROOM];
-    let number = doughpillar_answer(book, &mut room);
+    let number = answer(book, &mut room);
     if number == 0 {
         let n = atoms_of(book);
         put_answers(out, &room, n)

@@ -11,9 +11,9 @@ use denote.Triple.Clauses.{AtExit}
 use Rattle.meaning.specs.Outcome.{Outcome, outcome}
 use Rattle.meaning.specs.Demands.{Demands}
 use Rattle.meaning.proofs.Demands.{demands}
-use Rattle.engine.proofs.entry.doughpillar_answer.{signature}
-use Rattle.engine.proofs.entry.doughpillar_answer.Kinds as kinds
-use Rattle.engine.proofs.entry.doughpillar_answer.Reads as reads
+use Rattle.doughpillar.proofs.answer.doughpillar_answer.{signature}
+use Rattle.doughpillar.proofs.answer.doughpillar_answer.Kinds as kinds
+use Rattle.doughpillar.proofs.answer.doughpillar_answer.Reads as reads
 
 -- what the contract says of a call: the number returned and the room left
 pub record Answered (b room : List ℕ) (number : ℕ) (after : List ℕ) : Type 0 where

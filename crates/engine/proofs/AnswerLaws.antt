@@ -1,4 +1,4 @@
--- The entry: what a passed check gives, and that its number and its room are the outcome's. Assumes nothing.
+-- The answers of a book: what a passed check gives, and that its number and its room are the outcome's. Assumes nothing.
 use mathlib.Core.Path.{_≡_, refl, sym, ap, _∙_}
 use mathlib.Core.List.{List}
 use Prim.Native.Nat.{ℕ, _≤_}
@@ -64,7 +64,7 @@ module _ (b room : List ℕ) (v : Verdict) (e : v ≡ verdictOf (refusal b (leng
         let (r, f) = refused-some (refusal b (length room)) v n t i e p in
         sym (ap (λ (o : Outcome). o .room) (refused b room r f))
 
-pub ruleset entering = (
+pub ruleset answering = (
   prefix-room,
   prefix-count,
   passed-ready,

@@ -57,6 +57,18 @@ static void expect(const char *what, size_t length, size_t size, uint32_t number
     expect_guarded(what, length, size, number, answers, 8);
 }
 
+/* What the first bytes of the book say of its atoms. */
+static void expect_atoms(const char *what, size_t length, uint32_t atoms)
+{
+    uint8_t *bytes = malloc(length);
+    memcpy(bytes, book, length);
+    uint32_t returned = doughpillar_atoms(bytes, length);
+    if (returned != atoms)
+        printf("atoms of %s: returned %u\n", what, (unsigned)returned);
+    faults += returned != atoms;
+    free(bytes);
+}
+
 int main(void)
 {
     expect("answered", sizeof book, 6, 0);
@@ -69,6 +81,10 @@ int main(void)
     expect("no book and no room", 0, 0, 10000000);
     expect("one byte short", sizeof book - 1, 6, 30000000);
     expect("the table of contents alone", 48, 6, 30000000);
+    expect_atoms("the book", sizeof book, 4);
+    expect_atoms("the table of contents alone", 48, 4);
+    expect_atoms("47 bytes", 47, 0);
+    expect_atoms("no book", 0, 0);
     printf("C caller: %d faults\n", faults);
     return faults != 0;
 }
