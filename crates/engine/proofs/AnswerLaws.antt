@@ -1,4 +1,4 @@
--- The answers of a book: what a passed check gives, and that its number and its room are the outcome's. Assumes nothing.
+-- The answers of a book: what a passed check gives; its number and its room are those of the outcome. Assumes nothing.
 use mathlib.Core.Path.{_≡_, refl, sym, ap, _∙_}
 use mathlib.Core.List.{List}
 use Prim.Native.Nat.{ℕ, _≤_}
