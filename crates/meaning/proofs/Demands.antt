@@ -1,5 +1,4 @@
--- The three demands hold of any entry whose result is the outcome, and of no other; an outcome is unique. Assumes
--- nothing.
+-- The three demands hold of each call that is answered as the outcome says, and of no other. Assumes nothing.
 use mathlib.Core.Path.{_≡_, refl, sym, ap, ap₂, _∙_, subst}
 use mathlib.Core.Logic.{by-cases}
 use mathlib.Core.Option.{Option, none, some}
@@ -9,20 +8,20 @@ use native.Mathlib.Decide.{decLt}
 use native.Mathlib.Omega.{arith}
 use lib.ListN.{length}
 use lib.Seq.{ext-getD}
-use Rattle.theory.specs.Truth.{Truth}
+use Rattle.theory.specs.Truth.{Truth, _≼_}
 use Rattle.theory.specs.Answers.{_⊑_}
 use Rattle.meaning.specs.Format.{Tables, tables}
-use Rattle.meaning.specs.Reading.{givenOf, levelsOf, reading}
+use Rattle.meaning.specs.Reading.{codeOf, givenOf, levelsOf, reading}
 use Rattle.meaning.specs.Refusal.{Refusal, refusal}
 use Rattle.meaning.specs.Model.{answersOf}
-use Rattle.meaning.specs.Outcome.{Outcome, modelOf, outcome}
+use Rattle.meaning.specs.Outcome.{Answered, Call, Outcome, modelOf, outcome, written}
 use Rattle.meaning.specs.Founded.{Founded}
-use Rattle.meaning.specs.Demands.{Accepted, Demands, Filled, FoundedIn, Gives}
+use Rattle.meaning.specs.Demands.{Accepted, AcceptedCall, Demands, Filled, FoundedIn, Gives, Keeps, More}
 use Rattle.meaning.proofs.Accepted.{absent, given-length, sound}
 use Rattle.meaning.proofs.Sound.{Sound}
 use Rattle.meaning.proofs.Worked.{model-founded}
 use Rattle.meaning.proofs.Unique.{founded-grows, founded-unique}
-use Rattle.meaning.proofs.Given.{alike, given-grows, levels-same, reading-same}
+use Rattle.meaning.proofs.Given.{alike, count-atoms, given-grows, levels-same, reading-same}
 use Rattle.meaning.proofs.Gifts.{accepted-more}
 use Rattle.meaning.proofs.Bytes.{atoms-length}
 use Rattle.meaning.proofs.Rooms.{accepted, refused, room-enough, written-fills}
@@ -61,26 +60,60 @@ keeps b b′ n G e A A′ f f′ =
     let g : Founded (reading t) (levelsOf t) (givenOf t′) A′ = rw (R, L) at f′ in
     founded-grows (reading t) (levelsOf t) (givenOf t) (givenOf t′) S S′ (given-grows b b′ G) A A′ f g
 
--- all three, of an entry
-pub demands : (entry : List ℕ → List ℕ → Outcome) → ((b room : List ℕ) → entry b room ≡ outcome b room) → Demands entry
-demands entry is = record {
-  refuses = λ b room r e. is b room ∙ refused b room r e;
-  accepts = λ b room e. ap (λ (o : Outcome). o .number) (is b room ∙ accepted b room e);
-  answers = λ b room e. (
-    modelOf b,
-    founded b (length room) e,
-    model-length b (length room) e ∙ atoms-length b,
-    subst (Filled (modelOf b) room) (sym (ap (λ (o : Outcome). o .room) (is b room ∙ accepted b room e)))
-        (written-fills (modelOf b) room (omega (arith, model-length b (length room) e, room-enough b (length room) e))),
-  );
-  unique = unique;
-  accepts-more = λ b b′ n G. accepted-more b b′ G n;
-  keeps = keeps;
-}
+-- and the room of an accepted book has place for them
+model-fills : (b room : List ℕ) → Accepted b (length room) → Filled (modelOf b) room (written (modelOf b) room)
+model-fills b room e =
+    written-fills (modelOf b) room (omega (arith, model-length b (length room) e, room-enough b (length room) e))
 
--- any two outcomes that the promise admits are equal
-pub outcome-unique : (b room : List ℕ) (o o′ : Outcome) → o ≡ outcome b room → o′ ≡ outcome b room → o ≡ o′
-outcome-unique b room o o′ p q = p ∙ sym q
+-- demands 1 and 2, of a call that is answered
+module _ (c : Call) (is : Answered c) where
+  -- what it returns and leaves, where the outcome is known
+  returned : (o : Outcome) → outcome (c .book) (c .room) ≡ o → (c .number ≡ o .number) × (c .after ≡ o .room)
+  returned o e = (
+    is .returns ∙ ap (λ (o : Outcome). o .number) e,
+    is .leaves ∙ ap (λ (o : Outcome). o .room) e,
+  )
+
+  -- acceptance leaves the model's answers
+  fills : AcceptedCall c → Filled (modelOf (c .book)) (c .room) (c .after)
+  fills e =
+      subst (Filled (modelOf (c .book)) (c .room)) (sym (returned _ (accepted (c .book) (c .room) e) .1))
+      (model-fills (c .book) (c .room) e)
+
+  pub demands : Demands c
+  demands = record {
+    refuses = λ r e. returned _ (refused (c .book) (c .room) r e);
+    accepts = λ e. returned _ (accepted (c .book) (c .room) e) .0;
+    answers = λ e.
+        let n = length (c .room) in
+        (modelOf (c .book), founded (c .book) n e, model-length (c .book) n e ∙ atoms-length (c .book), fills e);
+    unique = unique (c .book) (length (c .room));
+  }
+
+-- the code of an answer that is kept
+code-kept : (x y : Truth) → x ≼ y → (codeOf x ≡ 0 → ⊥) → codeOf y ≡ codeOf x
+code-kept Truth.undefined y p n = absurd (n refl)
+code-kept Truth.true y p n = ap codeOf (p .0 refl)
+code-kept Truth.false y p n = ap codeOf (p .1 refl)
+
+-- demand 3, of two calls that are answered
+pub kept : (c c′ : Call) → Answered c → Answered c′ → More c c′ → Keeps c c′
+kept c c′ is is′ m = record {
+  accepts-more = demands c′ is′ .accepts also;
+  keeps = grow;
+  stays = λ a l n.
+      let (A, f, k, F) = demands c is .answers (m .first) in
+      let (A′, f′, k′, F′) = demands c′ is′ .answers also in
+      let p = F .answer a (omega (arith, l, k)) in
+      let p′ = F′ .answer a (omega (arith, l, k′, count-atoms (c .book) (c′ .book) (m .gives))) in
+      p′ ∙ code-kept (answersOf A a) (answersOf A′ a) (grow A A′ f f′ a) (λ z. n (p ∙ z)) ∙ sym p;
+}
+  where
+    also : AcceptedCall c′
+    also = rw (m .long) (accepted-more (c .book) (c′ .book) (m .gives) (length (c .room)) (m .first))
+
+    grow : (A A′ : List Truth) → FoundedIn (c .book) A → FoundedIn (c′ .book) A′ → answersOf A ⊑ answersOf A′
+    grow = keeps (c .book) (c′ .book) (length (c .room)) (m .gives) (m .first)
 
 -- a room that is filled has its bytes from the answers and from what it was
 filled-unique : (A : List Truth) (room after other : List ℕ) → Filled A room after → Filled A room other →
@@ -90,20 +123,36 @@ filled-unique A room after other F G =
     (λ i _. by-cases (decLt i (length A)) (λ l. F .answer i l ∙ sym (G .answer i l))
     (λ n. let l : length A ≤ i = omega (arith, n) in F .later i l ∙ sym (G .later i l)))
 
-same-outcome : (o o′ : Outcome) → o .number ≡ o′ .number → o .room ≡ o′ .room → o ≡ o′
-same-outcome o o′ p q = ap₂ (λ (n : ℕ) (l : List ℕ). record { number = n; room = l }) p q
-
--- the demands admit one entry
-pub demands-unique : (entry other : List ℕ → List ℕ → Outcome) → Demands entry → Demands other → (b room : List ℕ) →
-    entry b room ≡ other b room
-demands-unique entry other D E b room = go (refusal b (length room)) refl
+-- a call that meets demands 1 and 2 is answered: they say no less than the outcome
+pub answered : (c : Call) → Demands c → Answered c
+answered c D = go (refusal b (length room)) refl
   where
-    go : (o : Option Refusal) → refusal b (length room) ≡ o → entry b room ≡ other b room
+    b : List ℕ
+    b = c .book
+
+    room : List ℕ
+    room = c .room
+
+    go : (o : Option Refusal) → refusal b (length room) ≡ o → Answered c
     go none e =
-        let (A, f, _, F) = D .answers b room e in
-        let (B, g, _, G) = E .answers b room e in
-        let same : B ≡ A = D .unique b (length room) e B A g f in
-        same-outcome (entry b room) (other b room) (D .accepts b room e ∙ sym (E .accepts b room e))
-        (filled-unique A room (entry b room .room) (other b room .room) F
-        (subst (λ (X : List Truth). Filled X room (other b room .room)) same G))
-    go (some r) e = D .refuses b room r e ∙ sym (E .refuses b room r e)
+        let (A, f, _, F) = D .answers e in
+        let same : A ≡ modelOf b = D .unique e A (modelOf b) f (founded b (length room) e) in
+        let F′ = subst (λ (X : List Truth). Filled X room (c .after)) same F in
+        record {
+          returns = rw (accepted b room e) (D .accepts e);
+          leaves = rw (accepted b room e)
+              (filled-unique (modelOf b) room (c .after) (written (modelOf b) room) F′ (model-fills b room e));
+        }
+    go (some r) e =
+        record { returns = rw (refused b room r e) (D .refuses r e .0); leaves = rw (refused b room r e) (D .refuses r e .1) }
+
+-- a book and a room admit one number and one room afterwards
+module _ (c d : Call) (p : c .book ≡ d .book) (q : c .room ≡ d .room) where
+  pub answered-unique : Answered c → Answered d → (c .number ≡ d .number) × (c .after ≡ d .after)
+  answered-unique C D = (
+    C .returns ∙ ap₂ (λ (b room : List ℕ). outcome b room .number) p q ∙ sym (D .returns),
+    C .leaves ∙ ap₂ (λ (b room : List ℕ). outcome b room .room) p q ∙ sym (D .leaves),
+  )
+
+  pub demands-unique : Demands c → Demands d → (c .number ≡ d .number) × (c .after ≡ d .after)
+  demands-unique C D = answered-unique (answered c C) (answered d D)

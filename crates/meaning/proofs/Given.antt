@@ -124,7 +124,7 @@ module _ (b b′ : List ℕ) (G : Gives b b′) where
       sym (body-same b b′ header read k low loc (λ i p _. outside i (inr (omega (arith, p, start-rises b 2 k l)))))
 
   -- the atoms: as many, and each at the same place
-  count-atoms : countOf b 1 ≡ countOf b′ 1
+  pub count-atoms : countOf b 1 ≡ countOf b′ 1
   count-atoms = count-same b b′ header 1 (omega arith)
 
   -- where an atom's record starts

@@ -1,4 +1,5 @@
--- What is promised of an entry that takes a book and an answer room: the three demands. Assumes nothing.
+-- What is promised of a call, which has a book and an answer room: demands 1 and 2 of one call, demand 3 of two.
+-- Assumes nothing.
 use Prim.Native.Nat.{ℕ, _+_, _*_, _<_, _≤_}
 use mathlib.Core.Path.{_≡_}
 use mathlib.Core.Logic.{_⊎_}
@@ -12,7 +13,7 @@ use Rattle.meaning.specs.Format.{countOf, start, tables}
 use Rattle.meaning.specs.Reading.{Kind, Rule, codeOf, givenOf, kindAt, levelsOf, reading}
 use Rattle.meaning.specs.Refusal.{Refusal, packed, refusal}
 use Rattle.meaning.specs.Model.{answersOf}
-use Rattle.meaning.specs.Outcome.{Outcome}
+use Rattle.meaning.specs.Outcome.{Call}
 use Rattle.meaning.specs.Founded.{Founded}
 
 -- a book is accepted with a room of this length
@@ -43,17 +44,31 @@ pub record Filled (A : List Truth) (room after : List ℕ) : Type 0 where
   pub answer : (a : ℕ) → a < length A → getD after a 0 ≡ codeOf (answersOf A a)
   pub later : (i : ℕ) → length A ≤ i → getD after i 0 ≡ getD room i 0
 
-pub record Demands (entry : List ℕ → List ℕ → Outcome) : Type 0 where
+abbrev pub AcceptedCall : Call → Type 0
+AcceptedCall c = Accepted (c .book) (length (c .room))
+
+-- Demands 1 and 2, of a call.
+pub record Demands (c : Call) : Type 0 where
   -- 1. Every book and every room gets answers or the one refusal that is its own; a refusal changes no byte of the
   -- room.
-  pub refuses : (b room : List ℕ) (r : Refusal) → refusal b (length room) ≡ some r →
-      entry b room ≡ record { number = packed r; room = room }
-  pub accepts : (b room : List ℕ) → Accepted b (length room) → entry b room .number ≡ 0
+  pub refuses : (r : Refusal) → refusal (c .book) (length (c .room)) ≡ some r →
+      (c .number ≡ packed r) × (c .after ≡ c .room)
+  pub accepts : AcceptedCall c → c .number ≡ 0
   -- 2. Answers fill one byte for each atom, and are the founded ones, of which there is one for each book.
-  pub answers : (b room : List ℕ) → Accepted b (length room) →
-      (A : List Truth) × FoundedIn b A × (length A ≡ countOf b 1) × Filled A room (entry b room .room)
-  pub unique : (b : List ℕ) (n : ℕ) → Accepted b n → (A A′ : List Truth) → FoundedIn b A → FoundedIn b A′ → A ≡ A′
-  -- 3. More given open atoms never take back an answer.
-  pub accepts-more : (b b′ : List ℕ) (n : ℕ) → Gives b b′ → Accepted b n → Accepted b′ n
-  pub keeps : (b b′ : List ℕ) (n : ℕ) → Gives b b′ → Accepted b n → (A A′ : List Truth) → FoundedIn b A →
-      FoundedIn b′ A′ → answersOf A ⊑ answersOf A′
+  pub answers : AcceptedCall c → (A : List Truth) × FoundedIn (c .book) A × (length A ≡ countOf (c .book) 1)
+      × Filled A (c .room) (c .after)
+  pub unique : AcceptedCall c → (A A′ : List Truth) → FoundedIn (c .book) A → FoundedIn (c .book) A′ → A ≡ A′
+
+-- the second call has a book with more given, and a room of the same length; the first was accepted
+pub record More (c c′ : Call) : Type 0 where
+  pub first : AcceptedCall c
+  pub gives : Gives (c .book) (c′ .book)
+  pub long : length (c′ .room) ≡ length (c .room)
+
+-- Demand 3, of two such calls.
+pub record Keeps (c c′ : Call) : Type 0 where
+  -- 3. More given open atoms never take back an answer: the second is accepted too, its founded answers keep those of
+  -- the first, and so do the bytes in its room.
+  pub accepts-more : c′ .number ≡ 0
+  pub keeps : (A A′ : List Truth) → FoundedIn (c .book) A → FoundedIn (c′ .book) A′ → answersOf A ⊑ answersOf A′
+  pub stays : (a : ℕ) → a < countOf (c .book) 1 → (getD (c .after) a 0 ≡ 0 → ⊥) → getD (c′ .after) a 0 ≡ getD (c .after) a 0

@@ -1,6 +1,7 @@
 -- What the entry returns, and what the answer room holds afterwards, for every book and every room. Document 01,
 -- "Refusals and their order". Assumes nothing.
 use Prim.Native.Nat.{ℕ}
+use mathlib.Core.Path.{_≡_}
 use mathlib.Core.List.{List, _++_, map}
 use mathlib.Core.Option.{Option, none, some}
 use lib.ListN.{length, drop}
@@ -29,3 +30,15 @@ settle (some r) b room = record { number = packed r; room = room }
 
 unfoldable pub outcome : List ℕ → List ℕ → Outcome
 outcome b room = settle (refusal b (length room)) b room
+
+-- a call of the entry: a book and an answer room; the number returned, and the room afterwards
+pub record Call : Type 0 where
+  pub book : List ℕ
+  pub room : List ℕ
+  pub number : ℕ
+  pub after : List ℕ
+
+-- what a call may do: it returns the outcome's number, and leaves the outcome's room
+pub record Answered (c : Call) : Type 0 where
+  pub returns : c .number ≡ outcome (c .book) (c .room) .number
+  pub leaves : c .after ≡ outcome (c .book) (c .room) .room

@@ -6,14 +6,12 @@ use lib.IntN.{ℤ, pos, negℤ}
 use lib.ListN.{drop, getD, length, replicate, take}
 use Rattle.meaning.specs.Format.{Atom, Predicate, sizes, start}
 use Rattle.meaning.specs.Reading.{Aggregate, Element, Hypothesis, Kind, Literal, Relation, Rule}
+use Rattle.meaning.specs.Outcome.{Call}
 use Rattle.meaning.specs.Writing.{bookOf, kindCode, lay, u32, u8}
 
--- a book and an answer room; the number returned, and the room afterwards
-pub record Example : Type 0 where
-  pub book : List ℕ
-  pub room : List ℕ
-  pub number : ℕ
-  pub after : List ℕ
+-- an example is a call
+abbrev pub Example : Type 0
+Example = Call
 
 -- 0 undefined, 1 true, 2 false
 abbrev pub undefined : ℕ
