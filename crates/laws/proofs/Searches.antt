@@ -71,6 +71,13 @@ module _ {X : Type 0} (f : ℕ → X → Bool) (d : X) where
       (subst (λ (n : ℕ). So (f n (getD xs k d))) (sym (zero-add k)) at) ∙
       ap some (zero-add k)
 
+-- two tests that agree at every place find the same
+pub seek-same : {X : Type 0} (f g : ℕ → X → Bool) (i : ℕ) (xs : List X) →
+    ((k : ℕ) (x : X) → k < i + length xs → f k x ≡ g k x) → seek f i xs ≡ seek g i xs
+seek-same f g i [] h = refl
+seek-same f g i (x ∷ xs) h =
+    rw (h i x (omega arith), seek-same f g (suc i) xs (λ k y l. h k y (omega (arith, l)))) refl
+
 -- what a search finds is a place of the list
 pub seek-below : {X : Type 0} (f : ℕ → X → Bool) (i : ℕ) (xs : List X) (k : ℕ) → seek f i xs ≡ some k →
     k < i + length xs

@@ -144,7 +144,8 @@ answered c D = go (refusal b (length room)) refl
               (filled-unique (modelOf b) room (c .after) (written (modelOf b) room) F′ (model-fills b room e));
         }
     go (some r) e =
-        record { returns = rw (refused b room r e) (D .refuses r e .0); leaves = rw (refused b room r e) (D .refuses r e .1) }
+        let (p, q) = D .refuses r e in
+        record { returns = rw (refused b room r e) p; leaves = rw (refused b room r e) q }
 
 -- a book and a room admit one number and one room afterwards
 module _ (c d : Call) (p : c .book ≡ d .book) (q : c .room ≡ d .room) where

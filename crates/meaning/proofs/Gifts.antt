@@ -4,22 +4,21 @@ use mathlib.Core.Logic.{_⊎_, ⊎-elim}
 use mathlib.Core.Bool.{Bool, true, false, not, _&&_, _||_, So}
 use mathlib.Core.List.{List}
 use mathlib.Core.Option.{none}
-use Prim.Native.Nat.{ℕ, _+_, _*_, _≤_, _<_}
+use Prim.Native.Nat.{ℕ, _+_, _*_, _<_}
 use native.Mathlib.Omega.{arith}
 use lib.Dec.{eqb}
-use lib.ListN.{length, getD}
+use lib.ListN.{length}
 use borrow.Author.Tests.{eqb-true, le-ltb}
-use Rattle.laws.specs.Lists.{seek}
 use Rattle.laws.proofs.Tests.{fails-of}
 use Rattle.laws.proofs.Entries.{none-any}
-use Rattle.laws.proofs.Searches.{none-seek, seek-none}
-use Rattle.meaning.specs.Format.{Atom, Tables, limits, sizes, start, tables, noAtom}
+use Rattle.meaning.specs.Format.{Atom, Tables, start, tables, noAtom}
 use Rattle.meaning.specs.Reading.{elementsOf, isOpen, kindAt, levelsOf, reading}
-use Rattle.meaning.specs.Refusal.{astray, atTable, concluded, givenWrongly, lowest, misplaced, refusal, refusal1, refusal12, refusal2, refusal3, refusal4, refusal5, refusal6, refusal7, refusal8, refusals, stray, strayAtom, tooMany, unlisted, unlistedAtom}
+use Rattle.meaning.specs.Refusal.{concluded, givenWrongly, lowest, misplaced, refusal, refusal1, refusal12, refusal2, refusal3, refusal4, refusal5, refusal6, refusal7, refusal8, refusals, stray, strayAtom, unlisted, unlistedAtom}
 use Rattle.meaning.specs.Demands.{Accepted, Gift, Gives}
-use Rattle.meaning.proofs.Absent.{at-clear, clear-at, each-none, none-each, none-table}
+use Rattle.meaning.proofs.Absent.{at-clear, clear-at, each-none, none-each}
 use Rattle.meaning.proofs.Accepted.{atomAt}
-use Rattle.meaning.proofs.Bytes.{Same, atoms-length, count-same, offset-same, start-same}
+use Rattle.meaning.proofs.Bytes.{Same, atoms-length, start-same}
+use Rattle.meaning.proofs.Longer.{counts-same, offsets-same}
 use Rattle.meaning.proofs.Given.{Alike, alike, given-either, given-second, header, levels-same, reading-same}
 
 module _ (b b′ : List ℕ) (G : Gives b b′) where
@@ -41,27 +40,15 @@ module _ (b b′ : List ℕ) (G : Gives b b′) where
   unfolding refusal1
   one e = rw (G .long) e
 
-  -- a search among at most six entries finds nothing if the test is the same at each
-  searched : (number : ℕ) (f f′ : ℕ → ℕ → Bool) (xs : List ℕ) → length xs ≤ 6 → ((k x : ℕ) → k < 6 → f k x ≡ f′ k x) →
-      atTable number (seek f 0 xs) ≡ none → atTable number (seek f′ 0 xs) ≡ none
-  searched number f f′ xs few same e =
-      let clear = seek-none f 0 0 xs (none-table number (seek f 0 xs) e) in
-      ap (atTable number)
-      (none-seek f′ 0 0 xs (λ k l. sym (same (0 + k) (getD xs k 0) (omega (arith, l, few))) ∙ clear k l))
-
   two : refusal2 b ≡ none → refusal2 b′ ≡ none
-  unfolding refusal2
-  two = searched 2 (tooMany b) (tooMany b′) limits (omega arith) (λ k x l. rw (count-same b b′ H k l))
+  two e = sym (counts-same b b′ H) ∙ e
 
   three : refusal3 b ≡ none → refusal3 b′ ≡ none
   unfolding refusal3
   three e =
       let (p, (q, _)) = none-each (misplaced b) e in
-      each-none (misplaced b′) (
-        searched 3 (astray b) (astray b′) sizes (omega arith)
-            (λ k x l. rw (offset-same b b′ H k l, start-same b b′ H k (omega (arith, l)))) p,
-        (rw (G .long, ← start-same b b′ H 6 (omega arith)) q, tt),
-      )
+      each-none (misplaced b′)
+      (sym (offsets-same b b′ H) ∙ p, (rw (G .long, ← start-same b b′ H 6 (omega arith)) q, tt))
 
   -- there are as many atoms
   atom-in : (a : ℕ) → a < length (t′ .atoms) → a < length (t .atoms)

@@ -35,6 +35,8 @@ pub mod Accepted
 pub mod Unique
 -- records and their bytes
 pub mod Bytes
+-- a longer book has the refusal of its start
+pub mod Longer
 -- books that differ in given bytes
 pub mod Given
 -- they are accepted alike

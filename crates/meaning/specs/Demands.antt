@@ -71,4 +71,5 @@ pub record Keeps (c c′ : Call) : Type 0 where
   -- the first, and so do the bytes in its room.
   pub accepts-more : c′ .number ≡ 0
   pub keeps : (A A′ : List Truth) → FoundedIn (c .book) A → FoundedIn (c′ .book) A′ → answersOf A ⊑ answersOf A′
-  pub stays : (a : ℕ) → a < countOf (c .book) 1 → (getD (c .after) a 0 ≡ 0 → ⊥) → getD (c′ .after) a 0 ≡ getD (c .after) a 0
+  pub stays : (a : ℕ) → a < countOf (c .book) 1 → (getD (c .after) a 0 ≡ 0 → ⊥) →
+      getD (c′ .after) a 0 ≡ getD (c .after) a 0
