@@ -16,10 +16,9 @@ use mir.Val.{Fits}
 use Rattle.laws.specs.Lists.{seek}
 use Rattle.laws.proofs.Searches.{NoneTo, none-more, none-seek, none-start, seek-first, seek-none, table-rule}
 use Rattle.meaning.specs.Format.{contents, countOf, end, limits, offsetOf, sizes, start}
-use Rattle.meaning.specs.Refusal.{astray, atTable, firstOf, misplaced, refusal1, refusal2, refusal3, refuse, tooMany}
+use Rattle.meaning.specs.Refusal.{astray, atTable, firstOf, frameRefusals, misplaced, refusal1, refusal2, refusal3, refuse, tooMany}
 use Rattle.meaning.proofs.Absent.{none-each, none-if, none-table}
 use Rattle.book.specs.Framed.{Framed}
-use Rattle.checks.specs.Groups.{frameGroup}
 use Rattle.checks.specs.Verdicts.{verdictOf}
 use Rattle.checks.specs.declared.verdict.Verdict.{Verdict}
 use Rattle.checks.specs.declared.verdict.Verdict.the-variants.{Passed, Refused}
@@ -139,10 +138,10 @@ unfolding refusal1
 passed-long b v p e = ltb-false (length b) 48 (none-if 1 (ltb (length b) 48) (passed-none (refusal1 b) v p e))
 
 -- a book with none of the refusals 1 to 3 is framed
-pub framed : (b : List ℕ) → firstOf (frameGroup b) ≡ none → Framed b
+pub framed : (b : List ℕ) → firstOf (frameRefusals b) ≡ none → Framed b
 unfolding refusal1 refusal2 refusal3
 framed b e =
-    let (e1, (e2, (e3, _))) = none-each (frameGroup b) e in
+    let (e1, (e2, (e3, _))) = none-each (frameRefusals b) e in
     let (o, (l, _)) = none-each (misplaced b) e3 in
     record {
       long = ltb-false (length b) 48 (none-if 1 (ltb (length b) 48) e1);

@@ -13,16 +13,16 @@ use borrow.Author.Tests.{eqb-true, le-ltb, lt-ltb, ne-eqb}
 use Rattle.laws.proofs.Entries.{map-at}
 use Rattle.laws.proofs.Searches.{NoneTo, numbers-none, table-rule}
 use Rattle.meaning.specs.Format.{atomAt, body, comparisonAt, countOf, elementAt, hypothesisAt, noAtom, noComparison, noElement, noHypothesis, noPredicate, noRule, predicateAt, ruleAt, tables}
-use Rattle.meaning.specs.Refusal.{Refusal, atRecord, firstOf, lowest, refusal4, refusal5, strayAtom, strayComparison, strayElement, strayHypothesis, strayRule, unlistedAtom, unlistedComparison, unlistedElement, unlistedHypothesis, unlistedPredicate}
+use Rattle.meaning.specs.Refusal.{Refusal, atRecord, codeRefusals, firstOf, lowest, refusal4, refusal5, strayAtom, strayComparison, strayElement, strayHypothesis, strayRule, unlistedAtom, unlistedComparison, unlistedElement, unlistedHypothesis, unlistedPredicate}
 use Rattle.meaning.proofs.Bytes.{atoms-length, body-length}
 use Rattle.checks.specs.Faults.{bodies, faultIn, tableRefusal, tablesRefusal}
 use Rattle.book.specs.Records.{atomIn, comparisonIn, elementIn, hypothesisIn, predicateIn, ruleIn}
-use Rattle.checks.specs.Verdicts.{verdictOf}
+use Rattle.checks.specs.Verdicts.{verdictAmong, verdictOf}
 use Rattle.checks.specs.declared.verdict.Verdict.{Verdict}
 use Rattle.checks.specs.declared.verdict.Verdict.the-variants.{Passed, Refused}
 use Rattle.book.proofs.Counts.{comparisons-length, elements-length, hypotheses-length, predicates-length}
 use Rattle.checks.proofs.LowestLaws.{Found, Seeks, Through, found, lowest-is, through, turns}
-use Rattle.checks.proofs.VerdictLaws.{first-at, first-none, passed-none, refused-some}
+use Rattle.checks.proofs.VerdictLaws.{chain-last, first-at, first-none, passed-none, refused-some}
 
 -- which table it is
 pub count-at : (b : List ℕ) (k m i : ℕ) → k ≡ m → i < countOf b k → i < countOf b m
@@ -228,8 +228,9 @@ indices-are b =
     )
 
 -- and so are the answers to checks 4 and 5
-pub codes-verdict : (b : List ℕ) (v : Verdict) → v ≡ verdictOf (tablesRefusal b 4) → v ≡ verdictOf (refusal4 (tables b))
-codes-verdict b v p = p ∙ ap verdictOf (codes-are b)
+pub codes-verdict : (b : List ℕ) (v : Verdict) → v ≡ verdictOf (tablesRefusal b 4) →
+    v ≡ verdictAmong (codeRefusals (tables b))
+codes-verdict b v p = chain-last (refusal4 (tables b)) v (p ∙ ap verdictOf (codes-are b))
 
 pub indices-verdict : (b : List ℕ) (v : Verdict) → v ≡ verdictOf (tablesRefusal b 5) →
     v ≡ verdictOf (refusal5 (tables b))

@@ -1,13 +1,14 @@
 -- Verdicts: what a passed one says, how chains of refusals come to one, and the packed number. Assumes nothing.
-use mathlib.Core.Path.{_≡_, refl, sym}
-use mathlib.Core.List.{List, [], _∷_, _++_}
+use mathlib.Core.Path.{_≡_, refl, sym, ap, _∙_}
+use mathlib.Core.List.{List, [], _∷_, append-nil}
 use mathlib.Core.Option.{Option, none, some}
 use Prim.Native.Nat.{ℕ, zero, suc, _+_, _*_, _<_}
 use lib.ListN.{length, getD}
 use native.Mathlib.Omega.{arith}
-use Rattle.laws.proofs.Searches.{some≢none}
+use Rattle.laws.specs.Lists.{gather}
 use Rattle.meaning.specs.Refusal.{Refusal, firstOf}
-use Rattle.checks.specs.Verdicts.{packedOf, verdictOf}
+use Rattle.meaning.proofs.Absent.{first-append, first-found}
+use Rattle.checks.specs.Verdicts.{packedOf, verdictAmong, verdictOf}
 use Rattle.checks.specs.declared.verdict.Verdict.{Verdict}
 use Rattle.checks.specs.declared.verdict.Verdict.the-variants.{Passed, Refused}
 
@@ -21,43 +22,54 @@ pub passed-none : (o : Option Refusal) (v : Verdict) → v ≡ verdictOf o → v
 passed-none none v e p = refl
 passed-none (some r) v e p = let z : _≡_ {A = ℕ} 0 1 = cc in absurd (omega arith)
 
--- the first of two groups of refusals, and then the second
-pub first-append : (rs ss : List (Option Refusal)) → firstOf rs ≡ none → firstOf (rs ++ ss) ≡ firstOf ss
-first-append [] ss e = refl
-first-append (none ∷ rs) ss e = first-append rs ss e
-first-append (some r ∷ rs) ss e = absurd (some≢none e)
-
-pub first-found : (rs ss : List (Option Refusal)) (r : Refusal) → firstOf rs ≡ some r → firstOf (rs ++ ss) ≡ some r
-first-found [] ss r e = absurd (some≢none (sym e))
-first-found (none ∷ rs) ss r e = first-found rs ss r e
-first-found (some s ∷ rs) ss r e = e
+-- a refusal behind a verdict that is not passed
+pub refused-some : (o : Option Refusal) (v : Verdict) (n t i : ℕ) → v ≡ verdictOf o → v ≡ Refused n t i →
+    (r : Refusal) × (o ≡ some r)
+refused-some none v n t i p e = let z : _≡_ {A = ℕ} 0 1 = cc in absurd (omega arith)
+refused-some (some r) v n t i p e = (r, refl)
 
 -- a chain: each check is made only if those before it passed
 module _ (o : Option Refusal) (os : List (Option Refusal)) where
-  pub chain-passed : (v w : Verdict) → v ≡ verdictOf o → v ≡ Passed → w ≡ verdictOf (firstOf os) →
-      w ≡ verdictOf (firstOf (o ∷ os))
+  pub chain-passed : (v w : Verdict) → v ≡ verdictOf o → v ≡ Passed → w ≡ verdictAmong os → w ≡ verdictAmong (o ∷ os)
+  unfolding verdictAmong
   chain-passed v w p e q = rw (passed-none o v p e) q
 
-  pub chain-stopped : (v : Verdict) (n t i : ℕ) → v ≡ verdictOf o → v ≡ Refused n t i → v ≡ verdictOf (firstOf (o ∷ os))
-  chain-stopped v n t i p e = stop o p
-    where
-      stop : (o : Option Refusal) → v ≡ verdictOf o → v ≡ verdictOf (firstOf (o ∷ os))
-      stop none p = let z : _≡_ {A = ℕ} 0 1 = cc in absurd (omega arith)
-      stop (some r) p = p
+  pub chain-stopped : (v : Verdict) (n t i : ℕ) → v ≡ verdictOf o → v ≡ Refused n t i → v ≡ verdictAmong (o ∷ os)
+  unfolding verdictAmong
+  chain-stopped v n t i p e = let (r, q) = refused-some o v n t i p e in rw q (p ∙ ap verdictOf q)
 
-pub chain-last : (o : Option Refusal) (v : Verdict) → v ≡ verdictOf o → v ≡ verdictOf (firstOf (o ∷ []))
+pub chain-last : (o : Option Refusal) (v : Verdict) → v ≡ verdictOf o → v ≡ verdictAmong (o ∷ [])
+unfolding verdictAmong
 chain-last none v p = p
 chain-last (some r) v p = p
 
--- the last of four, those before it having passed
-pub chain-fourth : (o1 o2 o3 o4 : Option Refusal) (v1 v2 v3 w : Verdict) → v1 ≡ verdictOf o1 → v1 ≡ Passed →
-    v2 ≡ verdictOf o2 → v2 ≡ Passed → v3 ≡ verdictOf o3 → v3 ≡ Passed → w ≡ verdictOf o4 →
-    w ≡ verdictOf (firstOf (o1 ∷ o2 ∷ o3 ∷ o4 ∷ []))
-chain-fourth o1 o2 o3 o4 v1 v2 v3 w p1 e1 p2 e2 p3 e3 p4 =
-    chain-passed o1 (o2 ∷ o3 ∷ o4 ∷ []) v1 w p1 e1
-    (chain-passed o2 (o3 ∷ o4 ∷ []) v2 w p2 e2 (chain-passed o3 (o4 ∷ []) v3 w p3 e3 (chain-last o4 w p4)))
+-- for a check that stops the chain, and for the last
+pub ruleset stopping = (chain-passed, chain-stopped)
 
-pub ruleset chain = (chain-passed, chain-stopped, chain-last)
+pub ruleset ending = (chain-passed, chain-last)
+
+-- and a chain of groups
+unfoldable pub verdictAcross : List (List (Option Refusal)) → Verdict
+verdictAcross gs = verdictAmong (gather (λ g. g) gs)
+
+module _ (g : List (Option Refusal)) (gs : List (List (Option Refusal))) where
+  pub group-passed : (v w : Verdict) → v ≡ verdictAmong g → v ≡ Passed → w ≡ verdictAcross gs →
+      w ≡ verdictAcross (g ∷ gs)
+  unfolding verdictAmong verdictAcross
+  group-passed v w p e q =
+      q ∙ ap verdictOf (sym (first-append g (gather (λ g. g) gs) (passed-none (firstOf g) v p e)))
+
+  pub group-stopped : (v : Verdict) (n t i : ℕ) → v ≡ verdictAmong g → v ≡ Refused n t i → v ≡ verdictAcross (g ∷ gs)
+  unfolding verdictAmong verdictAcross
+  group-stopped v n t i p e =
+      let (r, f) = refused-some (firstOf g) v n t i p e in
+      p ∙ ap verdictOf (f ∙ sym (first-found g (gather (λ g. g) gs) r f))
+
+pub group-last : (g : List (Option Refusal)) (v : Verdict) → v ≡ verdictAmong g → v ≡ verdictAcross (g ∷ [])
+unfolding verdictAmong verdictAcross
+group-last g v p = p ∙ ap (λ rs. verdictOf (firstOf rs)) (sym (append-nil g))
+
+pub ruleset groups = (group-passed, group-stopped, group-last)
 
 -- the first of a list of refusals, by its place
 pub first-at : (rs : List (Option Refusal)) (k : ℕ) (r : Refusal) → k < length rs →
@@ -73,9 +85,3 @@ first-none [] h = refl
 first-none (o ∷ rs) h =
     let here : o ≡ none = h 0 (omega arith) in
     rw here (first-none rs (λ j m. h (suc j) (omega (arith, m))))
-
--- a refusal behind a verdict that is not passed
-pub refused-some : (o : Option Refusal) (v : Verdict) (n t i : ℕ) → v ≡ verdictOf o → v ≡ Refused n t i →
-    (r : Refusal) × (o ≡ some r)
-refused-some none v n t i p e = let z : _≡_ {A = ℕ} 0 1 = cc in absurd (omega arith)
-refused-some (some r) v n t i p e = (r, refl)

@@ -9,5 +9,3 @@ pub mod Marks
 pub mod Uses
 -- and by the marks of comparisons
 pub mod Shares
--- the checks in groups
-pub mod Groups

@@ -1,10 +1,10 @@
 // The twelve checks in their order: any bytes and any room get the one refusal that is theirs, or none.
 ghost use mathlib.Core.Path.{_≡_};
+ghost use mathlib.Core.List.{_++_};
 ghost use Rattle.meaning.specs.Format.{tables};
-ghost use Rattle.meaning.specs.Refusal.{refusal, refusal12};
+ghost use Rattle.meaning.specs.Refusal.{codeRefusals, frameRefusals, levelRefusals, recordRefusals, refusal, roomRefusals};
 ghost use Rattle.book.specs.Framed.{Framed, Indexed};
-ghost use Rattle.checks.specs.Groups.{levelsRefusal, recordsRefusal};
-ghost use Rattle.checks.specs.Verdicts.{verdictOf};
+ghost use Rattle.checks.specs.Verdicts.{verdictAmong, verdictOf};
 use crate::frame::check_frame;
 use crate::given::check_given;
 use crate::mixture::check_mixture;
@@ -17,58 +17,62 @@ use crate::uses::check_signs;
 use crate::verdict::Verdict;
 use book::readers::count_of;
 
-// 4 to 7: what the records say by themselves.
+// 5 to 7: the records.
 fn check_records(book: &[u8]) -> Verdict
     requires { ⌜ Framed (now book) ⌝ }
-    ensures { λ r. ⌜ r ≡ verdictOf (recordsRefusal (now (book .entry))) ⌝ }
+    ensures { λ r. ⌜ r ≡ verdictAmong (recordRefusals (tables (now (book .entry)))) ⌝ }
 {
-    let codes = check_codes(book);
-    match codes {
-        Verdict::Passed => {
-            let indices = check_indices(book);
-            match indices {
-                Verdict::Passed => {
-                    let pairs = check_pairs(book);
-                    match pairs {
-                        Verdict::Passed => check_given(book),
-                        _ => pairs,
-                    }
-                }
-                _ => indices,
-            }
-        }
-        _ => codes,
-    }
+    let indices = check_indices(book);
+    let Verdict::Passed = indices else {
+        return indices;
+    };
+    let pairs = check_pairs(book);
+    let Verdict::Passed = pairs else {
+        return pairs;
+    };
+    check_given(book)
 }
 
-// 8 to 11: kinds and levels.
+// 1 to 7: the tables, whatever their levels.
+fn check_tables(book: &[u8]) -> Verdict
+    ensures { λ r. ⌜ r ≡ verdictAmong (let b = now (book .entry) in
+        frameRefusals b ++ codeRefusals (tables b) ++ recordRefusals (tables b)) ⌝ }
+{
+    let frame = check_frame(book);
+    let Verdict::Passed = frame else {
+        return frame;
+    };
+    let codes = check_codes(book);
+    let Verdict::Passed = codes else {
+        return codes;
+    };
+    check_records(book)
+}
+
+// 8 to 11: the levels.
 fn check_levels(book: &[u8]) -> Verdict
     requires { ⌜ Framed (now book) × Indexed (now book) ⌝ }
-    ensures { λ r. ⌜ r ≡ verdictOf (levelsRefusal (now (book .entry))) ⌝ }
+    ensures { λ r. ⌜ r ≡ verdictAmong (levelRefusals (tables (now (book .entry)))) ⌝ }
 {
     let mixture = check_mixture(book);
-    match mixture {
-        Verdict::Passed => {
-            let heights = check_heights(book);
-            match heights {
-                Verdict::Passed => {
-                    let signs = check_signs(book);
-                    match signs {
-                        Verdict::Passed => check_certainty(book),
-                        _ => signs,
-                    }
-                }
-                _ => heights,
-            }
-        }
-        _ => mixture,
-    }
+    let Verdict::Passed = mixture else {
+        return mixture;
+    };
+    let heights = check_heights(book);
+    let Verdict::Passed = heights else {
+        return heights;
+    };
+    let signs = check_signs(book);
+    let Verdict::Passed = signs else {
+        return signs;
+    };
+    check_certainty(book)
 }
 
 // 12: answer room shorter than the number of atoms.
 fn check_room(book: &[u8], room: usize) -> Verdict
     requires { ⌜ Framed (now book) ⌝ }
-    ensures { λ r. ⌜ r ≡ verdictOf (refusal12 (tables (now (book .entry))) room) ⌝ }
+    ensures { λ r. ⌜ r ≡ verdictAmong (roomRefusals (tables (now (book .entry))) room) ⌝ }
 {
     if room < count_of(book, 1) {
         return Verdict::Refused {
@@ -83,21 +87,13 @@ fn check_room(book: &[u8], room: usize) -> Verdict
 pub fn check(book: &[u8], room: usize) -> Verdict
     ensures { λ r. ⌜ r ≡ verdictOf (refusal (now (book .entry)) room) ⌝ }
 {
-    let frame = check_frame(book);
-    match frame {
-        Verdict::Passed => {
-            let records = check_records(book);
-            match records {
-                Verdict::Passed => {
-                    let levels = check_levels(book);
-                    match levels {
-                        Verdict::Passed => check_room(book, room),
-                        _ => levels,
-                    }
-                }
-                _ => records,
-            }
-        }
-        _ => frame,
-    }
+    let tables = check_tables(book);
+    let Verdict::Passed = tables else {
+        return tables;
+    };
+    let levels = check_levels(book);
+    let Verdict::Passed = levels else {
+        return levels;
+    };
+    check_room(book, room)
 }

@@ -3,9 +3,8 @@ ghost use mathlib.Core.Path.{_≡_};
 ghost use Prim.Native.Nat.{_<_, _≤_};
 ghost use lib.ListN.{length, getD};
 ghost use Rattle.meaning.specs.Format.{contents, limits};
-ghost use Rattle.meaning.specs.Refusal.{firstOf, refusal1, refusal2, refusal3};
-ghost use Rattle.checks.specs.Groups.{frameGroup};
-ghost use Rattle.checks.specs.Verdicts.{verdictOf};
+ghost use Rattle.meaning.specs.Refusal.{frameRefusals, refusal1, refusal2, refusal3};
+ghost use Rattle.checks.specs.Verdicts.{verdictAmong, verdictOf};
 use crate::verdict::Verdict;
 use book::readers::count_of;
 use book::readers::narrow;
@@ -85,17 +84,15 @@ fn check_offsets(book: &[u8]) -> Verdict
 
 // The three in their order.
 pub(crate) fn check_frame(book: &[u8]) -> Verdict
-    ensures { λ r. ⌜ r ≡ verdictOf (firstOf (frameGroup (now (book .entry)))) ⌝ }
+    ensures { λ r. ⌜ r ≡ verdictAmong (frameRefusals (now (book .entry))) ⌝ }
 {
-    let v1 = check_length(book);
-    match v1 {
-        Verdict::Passed => {
-            let v2 = check_counts(book);
-            match v2 {
-                Verdict::Passed => check_offsets(book),
-                _ => v2,
-            }
-        }
-        _ => v1,
-    }
+    let length = check_length(book);
+    let Verdict::Passed = length else {
+        return length;
+    };
+    let counts = check_counts(book);
+    let Verdict::Passed = counts else {
+        return counts;
+    };
+    check_offsets(book)
 }

@@ -4,10 +4,10 @@ ghost use mathlib.Core.Bool.{cond};
 ghost use lib.Dec.{ltb};
 ghost use Prim.Native.Nat.{_<_};
 ghost use Rattle.meaning.specs.Format.{countOf, tables};
-ghost use Rattle.meaning.specs.Refusal.{refusal4, refusal5};
+ghost use Rattle.meaning.specs.Refusal.{codeRefusals, refusal5};
 ghost use Rattle.book.specs.Framed.{Framed};
 ghost use Rattle.checks.specs.Faults.{faultIn, tableRefusal, tablesRefusal};
-ghost use Rattle.checks.specs.Verdicts.{verdictOf};
+ghost use Rattle.checks.specs.Verdicts.{verdictAmong, verdictOf};
 use crate::verdict::Verdict;
 use book::fields::atom_given;
 use book::fields::atom_predicate;
@@ -112,12 +112,9 @@ fn check_tables(book: &[u8], check: usize) -> Verdict
     let mut k = 0;
     while k < 6 {
         let v = check_table(book, check, k);
-        match v {
-            Verdict::Passed => {}
-            _ => {
-                return v;
-            }
-        }
+        let Verdict::Passed = v else {
+            return v;
+        };
         k += 1;
     }
     Verdict::Passed
@@ -126,7 +123,7 @@ fn check_tables(book: &[u8], check: usize) -> Verdict
 // 4: a code or level that is not listed.
 pub(crate) fn check_codes(book: &[u8]) -> Verdict
     requires { ⌜ Framed (now book) ⌝ }
-    ensures { λ r. ⌜ r ≡ verdictOf (refusal4 (tables (now (book .entry)))) ⌝ }
+    ensures { λ r. ⌜ r ≡ verdictAmong (codeRefusals (tables (now (book .entry)))) ⌝ }
 {
     check_tables(book, 4)
 }

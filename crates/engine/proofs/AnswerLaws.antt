@@ -5,7 +5,6 @@ use Prim.Native.Nat.{ℕ, _≤_}
 use native.Mathlib.Omega.{arith}
 use lib.ListN.{length, take}
 use Rattle.meaning.specs.Format.{contents, countOf, tables}
-use Rattle.meaning.specs.Reading.{levelsOf, reading}
 use Rattle.meaning.specs.Refusal.{refusal, refusals}
 use Rattle.meaning.specs.Demands.{Accepted}
 use Rattle.meaning.specs.Outcome.{Outcome, modelOf, outcome, written}
@@ -26,7 +25,7 @@ accepted-ready : (b : List ℕ) (n : ℕ) → Accepted b n → Ready b
 unfolding refusal
 accepted-ready b n e =
     let t = tables b in
-    let (r1, (r2, (r3, (_, (r5, _))))) = none-each (refusals b t (reading t) (levelsOf t) n) e in
+    let (r1, (r2, (r3, (_, (r5, _))))) = none-each (refusals b t n) e in
     record { framed = framed b (rw (r1, r2, r3) refl); indexed = indexed b r5 }
 
 module _ (b room : List ℕ) (v : Verdict) (e : v ≡ verdictOf (refusal b (length room))) where

@@ -7,7 +7,6 @@ use native.Mathlib.Omega.{arith}
 use lib.ListN.{length, take, length-replicate, replicate}
 use borrow.Author.Tests.{eq-eqb, ne-eqb}
 use Rattle.meaning.specs.Format.{contents, countOf, tables}
-use Rattle.meaning.specs.Reading.{levelsOf, reading}
 use Rattle.meaning.specs.Refusal.{Refusal, packed, refusal, refusals}
 use Rattle.meaning.specs.Demands.{Accepted}
 use Rattle.meaning.specs.Outcome.{Outcome, outcome}
@@ -45,7 +44,7 @@ module _ (b : List ℕ) (e : Accepted b roomLength) where
   unfolding refusal
   accepted-long =
       let t = tables b in
-      let (r1, (r2, (r3, _))) = none-each (refusals b t (reading t) (levelsOf t) roomLength) e in
+      let (r1, (r2, (r3, _))) = none-each (refusals b t roomLength) e in
       framed b (rw (r1, r2, r3) refl) .long
 
   pub accepted-few : (n : ℕ) → n ≡ countOf b 1 → n ≤ roomLength

@@ -11,18 +11,17 @@ use lib.ListN.{length, length-map}
 use borrow.Author.Tests.{le-ltb}
 use Rattle.meaning.specs.Format.{Tables, contents, end, limits, sizes, tables}
 use Rattle.meaning.specs.Reading.{levelsOf, reading, ruleOf}
-use Rattle.meaning.specs.Refusal.{Refusal, astray, firstOf, misplaced, refusal, refusal1, refusal10, refusal11, refusal12, refusal2, refusal3, refusal4, refusal5, refusal6, refusal7, refusal8, refusal9, stray, tooMany, unlisted}
+use Rattle.meaning.specs.Refusal.{Refusal, astray, firstOf, frameRefusals, misplaced, refusal, refusal1, refusal10, refusal11, refusal12, refusal2, refusal3, refusal4, refusal5, refusal6, refusal7, refusal8, refusal9, stray, tooMany, unlisted}
 use Rattle.meaning.proofs.Bytes.{atoms-length}
 use Rattle.book.specs.Framed.{Framed}
-use Rattle.checks.specs.Groups.{frameGroup}
 use Rattle.book.proofs.Counts.{comparisons-length, elements-length, hypotheses-length, predicates-length, rules-length}
 use Rattle.checks.proofs.FrameLaws.{framed}
-use Rattle.checks.proofs.VerdictLaws.{first-append, first-found}
+use Rattle.meaning.proofs.Absent.{first-append, first-found}
 use Rattle.listing.specs.Text.{roomLength}
 use Rattle.listing.proofs.SmallLaws.{AllSmall, Small, Smalls, _and_, first-small, if-small, lowest-small, nil, none-small, table-small}
 
 -- refusals 1 to 3
-frame-small : (b : List ℕ) → Smalls (frameGroup b)
+frame-small : (b : List ℕ) → Smalls (frameRefusals b)
 unfolding refusal1 refusal2 refusal3
 frame-small b =
     if-small 1 (ltb (length b) contents) refl
@@ -118,12 +117,12 @@ module _ (b : List ℕ) (F : Framed b) where
 
 pub refusal-small : (b : List ℕ) (r : Refusal) → refusal b roomLength ≡ some r → Small r
 unfolding refusal
-refusal-small b r e = go (firstOf (frameGroup b)) refl
+refusal-small b r e = go (firstOf (frameRefusals b)) refl
   where
-    go : (o : Option Refusal) → firstOf (frameGroup b) ≡ o → Small r
+    go : (o : Option Refusal) → firstOf (frameRefusals b) ≡ o → Small r
     go none p =
         first-small (later b roomLength) (later-small b (framed b p)) .each r
-        (sym (first-append (frameGroup b) (later b roomLength) p) ∙ e)
+        (sym (first-append (frameRefusals b) (later b roomLength) p) ∙ e)
     go (some s) p =
-        first-small (frameGroup b) (frame-small b) .each r
-        (p ∙ sym (first-found (frameGroup b) (later b roomLength) s p) ∙ e)
+        first-small (frameRefusals b) (frame-small b) .each r
+        (p ∙ sym (first-found (frameRefusals b) (later b roomLength) s p) ∙ e)

@@ -1,7 +1,7 @@
 -- What it says that a refusal is absent, and when it is: a search that finds no record at fault. Assumes nothing.
 use mathlib.Core.Path.{_≡_, refl, sym, ap, subst}
 use mathlib.Core.Bool.{Bool, true, false}
-use mathlib.Core.List.{List, [], _∷_}
+use mathlib.Core.List.{List, [], _∷_, _++_}
 use mathlib.Core.Option.{Option, none, some}
 use Prim.Native.Nat.{ℕ, _<_}
 use native.Mathlib.Nat.{zero-add}
@@ -20,6 +20,17 @@ none-each (some r ∷ rs) e = absurd (some≢none e)
 pub each-none : (rs : List (Option Refusal)) → Every (λ r. r ≡ none) rs → firstOf rs ≡ none
 each-none [] e = refl
 each-none (r ∷ rs) (e, es) = rw e (each-none rs es)
+
+-- the first of two groups of refusals, and then the second
+pub first-append : (rs ss : List (Option Refusal)) → firstOf rs ≡ none → firstOf (rs ++ ss) ≡ firstOf ss
+first-append [] ss e = refl
+first-append (none ∷ rs) ss e = first-append rs ss e
+first-append (some r ∷ rs) ss e = absurd (some≢none e)
+
+pub first-found : (rs ss : List (Option Refusal)) (r : Refusal) → firstOf rs ≡ some r → firstOf (rs ++ ss) ≡ some r
+first-found [] ss r e = absurd (some≢none (sym e))
+first-found (none ∷ rs) ss r e = first-found rs ss r e
+first-found (some s ∷ rs) ss r e = e
 
 -- a test that refuses nothing fails, and a search that refuses nothing found nothing
 pub none-if : (number : ℕ) (met : Bool) → refuseIf number met ≡ none → met ≡ false

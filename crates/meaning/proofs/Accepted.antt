@@ -265,5 +265,5 @@ unfolding refusal
 absent b room e =
     let t : Tables = tables b in
     let (_, (_, (_, (r4, (r5, (_, (r7, (r8, (r9, (r10, (r11, _))))))))))) =
-    none-each (refusals b t (reading t) (levelsOf t) room) e in
+    none-each (refusals b t room) e in
     record { codes = r4; indices = r5; gifts = r7; mixtures = r8; heights = r9; signs = r10; kinds = r11 }

@@ -12,7 +12,7 @@ use borrow.Author.Tests.{eqb-true, le-ltb}
 use Rattle.laws.proofs.Tests.{fails-of}
 use Rattle.laws.proofs.Entries.{none-any}
 use Rattle.meaning.specs.Format.{Atom, Tables, start, tables, noAtom}
-use Rattle.meaning.specs.Reading.{elementsOf, isOpen, kindAt, levelsOf, reading}
+use Rattle.meaning.specs.Reading.{elementsOf, isOpen, kindAt, reading}
 use Rattle.meaning.specs.Refusal.{concluded, givenWrongly, lowest, misplaced, refusal, refusal1, refusal12, refusal2, refusal3, refusal4, refusal5, refusal6, refusal7, refusal8, refusals, stray, strayAtom, unlisted, unlistedAtom}
 use Rattle.meaning.specs.Demands.{Accepted, Gift, Gives}
 use Rattle.meaning.proofs.Absent.{at-clear, clear-at, each-none, none-each}
@@ -121,7 +121,7 @@ module _ (b b′ : List ℕ) (G : Gives b b′) where
   unfolding refusal refusal12
   accepted-more room e =
       let (r1, (r2, (r3, (r4, (r5, (r6, (r7, (r8, later)))))))) =
-      none-each (refusals b t (reading t) (levelsOf t) room) e in
-      each-none (refusals b′ t′ (reading t′) (levelsOf t′) room)
+      none-each (refusals b t room) e in
+      each-none (refusals b′ t′ room)
       (rw (reading-same t t′ A, levels-same t t′ A, A .long)
       (one r1, (two r2, (three r3, (four r4, (five r5, (six r6, (seven r7, (eight r8, later)))))))))

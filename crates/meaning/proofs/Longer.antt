@@ -1,8 +1,8 @@
--- A longer book has the refusal of its start: no book of more than 64,816 bytes passes the checks 1 to 3, and these look
+-- A longer book has the refusal of its start: with more than 64,816 bytes none passes the checks 1 to 3, and these look
 -- at its length and its first 48 bytes alone. Assumes nothing.
 use mathlib.Core.Path.{_≡_, refl, sym, ap, _∙_, subst}
 use mathlib.Core.Bool.{true, false}
-use mathlib.Core.List.{List, [], _∷_, _++_}
+use mathlib.Core.List.{List, [], _∷_}
 use mathlib.Core.Option.{Option, none, some}
 use Prim.Native.Nat.{ℕ, _≤_, _<_}
 use native.Mathlib.Nat.{zero-add}
@@ -12,11 +12,10 @@ use lib.ListN.{length, drop, getD, take}
 use lib.Seq.{getD-take, length-take-le}
 use borrow.Author.Tests.{le-ltb, ltb-false, ltb-true, ne-eqb}
 use Rattle.laws.specs.Lists.{seek}
-use Rattle.laws.proofs.Searches.{seek-none, seek-same, some≢none}
+use Rattle.laws.proofs.Searches.{seek-none, seek-same}
 use Rattle.meaning.specs.Format.{contents, countOf, end, limits, sizes, start, tables}
-use Rattle.meaning.specs.Reading.{levelsOf, reading}
-use Rattle.meaning.specs.Refusal.{Refusal, astray, atTable, firstOf, refusal, refusal1, refusal2, refusal3, refusals, refuse, tooMany}
-use Rattle.meaning.proofs.Absent.{none-table}
+use Rattle.meaning.specs.Refusal.{Refusal, astray, atTable, firstOf, frameRefusals, refusal, refusal1, refusal2, refusal3, refusals, refuse, tooMany}
+use Rattle.meaning.proofs.Absent.{first-found, none-table}
 use Rattle.meaning.proofs.Bytes.{Same, count-same, offset-same, start-same}
 
 -- what the table of contents alone decides: refusal 2, and refusal 3 at an offset
@@ -38,19 +37,12 @@ mostBytes = 64816
 
 -- the checks of the frame, one after the other
 abbrev frame : List ℕ → Option Refusal
-frame b = firstOf (refusal1 b ∷ refusal2 b ∷ refusal3 b ∷ [])
-
--- what the first of them give is given
-first-given : (rs later : List (Option Refusal)) (r : Refusal) → firstOf rs ≡ some r → firstOf (rs ++ later) ≡ some r
-first-given [] later r e = absurd (some≢none (sym e))
-first-given (none ∷ rs) later r e = first-given rs later r e
-first-given (some s ∷ rs) later r e = e
+frame b = firstOf (frameRefusals b)
 
 frame-given : (b : List ℕ) (n : ℕ) (r : Refusal) → frame b ≡ some r → refusal b n ≡ some r
 unfolding refusal
 frame-given b n r e =
-    let t = tables b in
-    first-given (refusal1 b ∷ refusal2 b ∷ refusal3 b ∷ []) (drop 3 (refusals b t (reading t) (levelsOf t) n)) r e
+    first-found (frameRefusals b) (drop 3 (refusals b (tables b) n)) r e
 
 -- a book with no count above its limit ends by there
 end-low : (b : List ℕ) → refusal2 b ≡ none → end b ≤ mostBytes

@@ -11,7 +11,7 @@ use borrow.Author.Tests.{ltb-false}
 use Rattle.laws.proofs.Entries.{map-at}
 use Rattle.theory.specs.Truth.{Truth}
 use Rattle.meaning.specs.Format.{tables}
-use Rattle.meaning.specs.Reading.{codeOf, levelsOf, reading}
+use Rattle.meaning.specs.Reading.{codeOf}
 use Rattle.meaning.specs.Refusal.{Refusal, packed, refusal, refusal12, refusals}
 use Rattle.meaning.specs.Outcome.{modelOf, outcome, settle, written}
 use Rattle.meaning.specs.Demands.{Accepted, Filled}
@@ -44,7 +44,7 @@ unfolding refusal refusal12
 room-enough b room e =
     let t = tables b in
     let (_, (_, (_, (_, (_, (_, (_, (_, (_, (_, (_, (r12, _)))))))))))) =
-    none-each (refusals b t (reading t) (levelsOf t) room) e in
+    none-each (refusals b t room) e in
     ltb-false room (length (t .atoms)) (none-if 12 _ r12)
 
 -- a refused book leaves the room as it was

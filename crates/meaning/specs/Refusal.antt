@@ -1,7 +1,7 @@
 -- The refusals 1 to 12 in their order, each with its place. Document 01, "Refusals and their order". Assumes nothing.
 use Prim.Native.Nat.{ℕ, suc, _+_, _*_}
 use mathlib.Core.Bool.{Bool, true, false, not, cond, _&&_, _||_, Bool·beq}
-use mathlib.Core.List.{List, [], _∷_, map}
+use mathlib.Core.List.{List, [], _∷_, _++_, map}
 use mathlib.Core.Option.{Option, none, some}
 use lib.Dec.{eqb, ltb, leb}
 use lib.ListN.{length, take}
@@ -229,25 +229,38 @@ refusal11 R = lowest 11 3 (usesUncertain (R .kinds)) (R .rules)
 unfoldable pub refusal12 : Tables → ℕ → Option Refusal
 refusal12 t room = refuseIf 12 (ltb room (length (t .atoms)))
 
--- the twelve, for a book and the length of the answer room
-abbrev pub refusals : List ℕ → Tables → Reading → List ℕ → ℕ → List (Option Refusal)
-refusals b t R levels room =
-    refusal1 b
-    ∷ refusal2 b
-    ∷ refusal3 b
-    ∷ refusal4 t
-    ∷ refusal5 t
-    ∷ refusal6 t
-    ∷ refusal7 R (t .atoms)
-    ∷ refusal8 (t .predicates)
-    ∷ refusal9 (R .rules) levels
-    ∷ refusal10 R levels
-    ∷ refusal11 R
-    ∷ refusal12 t room
+-- The twelve in groups, each checked only if those before it give none. 1 to 3: the frame
+abbrev pub frameRefusals : List ℕ → List (Option Refusal)
+frameRefusals b = refusal1 b ∷ refusal2 b ∷ refusal3 b ∷ []
+
+-- 4: the codes
+abbrev pub codeRefusals : Tables → List (Option Refusal)
+codeRefusals t = refusal4 t ∷ []
+
+-- 5 to 7: the records
+abbrev pub recordRefusals : Tables → List (Option Refusal)
+recordRefusals t = refusal5 t ∷ refusal6 t ∷ refusal7 (reading t) (t .atoms) ∷ []
+
+-- 8 to 11: the levels
+abbrev pub levelRefusals : Tables → List (Option Refusal)
+levelRefusals t =
+    refusal8 (t .predicates)
+    ∷ refusal9 (reading t .rules) (levelsOf t)
+    ∷ refusal10 (reading t) (levelsOf t)
+    ∷ refusal11 (reading t)
     ∷ []
 
+-- 12: the answer room
+abbrev pub roomRefusals : Tables → ℕ → List (Option Refusal)
+roomRefusals t room = refusal12 t room ∷ []
+
+-- all of them, for a book and the length of the answer room
+abbrev pub refusals : List ℕ → Tables → ℕ → List (Option Refusal)
+refusals b t room =
+    frameRefusals b ++ codeRefusals t ++ recordRefusals t ++ levelRefusals t ++ roomRefusals t room
+
 unfoldable pub refusal : List ℕ → ℕ → Option Refusal
-refusal b room = let t = tables b in firstOf (refusals b t (reading t) (levelsOf t) room)
+refusal b room = firstOf (refusals b (tables b) room)
 
 -- what the entry returns: number × 10,000,000 + table × 1,000,000 + record
 abbrev pub packed : Refusal → ℕ

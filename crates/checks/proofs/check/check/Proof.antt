@@ -7,7 +7,6 @@ use Rattle.checks.proofs.check.check.Tie as tie
 pub check-spec : {M : Type 1} → statement M
 check-spec =
     tie.close
-    (tie.spec (λ c κs. search needs) (λ c. search needs) (λ c κs. search (needs, order)) (λ c. search needs)
-    (λ c κs. search (needs, order)) (λ c. search needs) (λ c κs. search (needs, order)) (λ c. search needs)
-    (λ c. search needs) (λ c. search needs) (λ c. search (needs, order)) (λ c. search (needs, order))
-    (λ c. search (needs, order)) (λ c. search (needs, order)))
+    (tie.spec (λ c κs. search needs) (λ c. search needs) (λ c. search needs) (λ c. search (needs, order))
+    (λ c κs. search (needs, order)) (λ c. search needs) (λ c. search needs) (λ c. search (needs, order))
+    (λ c κs. search (needs, order)) (λ c. search (needs, order)))
