@@ -4,6 +4,7 @@ use mathlib.Core.List.{List}
 use Prim.Native.Nat.{ℕ, _≤_}
 use native.Mathlib.Omega.{arith}
 use lib.ListN.{length, take}
+use lib.Seq.{take-all}
 use Rattle.meaning.specs.Format.{contents, countOf, tables}
 use Rattle.meaning.specs.Refusal.{refusal, refusals}
 use Rattle.meaning.specs.Demands.{Accepted}
@@ -28,29 +29,37 @@ accepted-ready b n e =
     let (r1, (r2, (r3, (_, (r5, _))))) = none-each (refusals b t n) e in
     record { framed = framed b (rw (r1, r2, r3) refl); indexed = indexed b r5 }
 
+-- so can one that passed, whatever the room
+module _ (b : List ℕ) (n : ℕ) (v : Verdict) (e : v ≡ verdictOf (refusal b n)) (p : v ≡ Passed) where
+  passed : Accepted b n
+  passed = passed-none (refusal b n) v e p
+
+  pub passed-ready : Ready b
+  passed-ready = accepted-ready b n passed
+
+  pub passed-long : contents ≤ length b
+  passed-long = passed-ready .framed .long
+
+-- one that passed with this room, and one that did not
 module _ (b room : List ℕ) (v : Verdict) (e : v ≡ verdictOf (refusal b (length room))) where
   module _ (p : v ≡ Passed) where
-    passed : Accepted b (length room)
-    passed = passed-none (refusal b (length room)) v e p
-
-    pub passed-ready : Ready b
-    passed-ready = accepted-ready b (length room) passed
-
-    pub passed-long : contents ≤ length b
-    passed-long = passed-ready .framed .long
-
-    pub passed-room : (L : List ℕ) (k : ℕ) → k ≡ countOf b 1 → length L ≡ 2048 → length (take k L) ≤ length room
-    passed-room L k q l =
-        omega (arith, prefix-length b k passed-ready L q l, atoms-length b, room-enough b (length room) passed)
+    here : Accepted b (length room)
+    here = passed b (length room) v e p
 
     pub passed-number : 0 ≡ outcome b room .number
-    passed-number = sym (ap (λ (o : Outcome). o .number) (accepted b room passed))
+    passed-number = sym (ap (λ (o : Outcome). o .number) (accepted b room here))
 
-    pub passed-writes : (L after : List ℕ) (k : ℕ) → k ≡ countOf b 1 → answersIn (take (countOf b 1) L) ≡ modelOf b →
-        after ≡ written (answersIn (take k L)) room → after ≡ outcome b room .room
-    passed-writes L after k q m w =
-        w ∙ ap (λ (i : ℕ). written (answersIn (take i L)) room) q ∙ ap (λ A. written A room) m ∙
-        sym (ap (λ (o : Outcome). o .room) (accepted b room passed))
+    -- all answers have room
+    pub passed-writes : (L after : List ℕ) (k : ℕ) → k ≡ countOf b 1 → length L ≡ 2048 →
+        answersIn (take (countOf b 1) L) ≡ modelOf b →
+        after ≡ written (answersIn (take (length room) (take k L))) room → after ≡ outcome b room .room
+    passed-writes L after k q l m w =
+        let R = accepted-ready b (length room) here in
+        let s : length (take k L) ≤ length room =
+        omega (arith, prefix-length b k R L q l, atoms-length b, room-enough b (length room) here) in
+        w ∙ ap (λ (xs : List ℕ). written (answersIn xs) room) (take-all (length room) (take k L) s) ∙
+        ap (λ (i : ℕ). written (answersIn (take i L)) room) q ∙ ap (λ A. written A room) m ∙
+        sym (ap (λ (o : Outcome). o .room) (accepted b room here))
 
   module _ (n t i : ℕ) (p : v ≡ Refused n t i) where
     pub refused-number : (x : ℕ) → x ≡ packedOf v → x ≡ outcome b room .number
@@ -68,7 +77,6 @@ pub ruleset answering = (
   prefix-count,
   passed-ready,
   passed-long,
-  passed-room,
   passed-number,
   passed-writes,
   refused-number,

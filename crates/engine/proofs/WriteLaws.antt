@@ -2,11 +2,11 @@
 use mathlib.Core.Path.{_≡_, refl, sym, ap, _∙_, subst}
 use mathlib.Core.Logic.{by-cases}
 use mathlib.Core.List.{List}
-use Prim.Native.Nat.{ℕ, _+_, _-_, _<_, _≤_}
+use Prim.Native.Nat.{ℕ, _+_, _-_, _<_, _≤_, min}
 use native.Mathlib.Decide.{decLt}
 use native.Mathlib.Omega.{arith}
-use lib.ListN.{length, getD, length-map, length-set, set}
-use lib.Seq.{ext-getD, getD-set-other, getD-set-same}
+use lib.ListN.{length, getD, length-map, length-set, length-take, set, take}
+use lib.Seq.{ext-getD, getD-set-other, getD-set-same, getD-take}
 use Rattle.laws.proofs.Entries.{map-at}
 use Rattle.theory.specs.Truth.{Truth}
 use Rattle.meaning.specs.Reading.{codeOf, truthOf}
@@ -35,21 +35,24 @@ module _ (L room : List ℕ) where
     later = λ j m. getD-set-other now a j v 0 (λ z. omega (arith, m, z)) ∙ F .later j (omega (arith, m));
   }
 
-  pub filling-all : (now : List ℕ) (a : ℕ) → Filling L room now a → a ≤ length L → length L ≤ a →
-      length L ≤ length room →
-      now ≡ written (answersIn L) room
+  -- n answers are written: those that the room has a place for
+  pub filling-all : (now : List ℕ) (a n : ℕ) → Filling L room now a → a ≤ n → n ≤ a → n ≡ min (length room) (length L) →
+      n ≤ length room → now ≡ written (answersIn (take (length room) L)) room
   unfolding held
-  filling-all now a F l m n =
-      let k : length (answersIn L) ≡ length L = length-map L truthOf in
-      let W = written-fills (answersIn L) room (omega (arith, n, k)) in
-      ext-getD 0 now (written (answersIn L) room) (F .long ∙ sym (W .long))
-      (λ j o. by-cases (decLt j (length L))
-      (λ p. F .answers j (omega (arith, p, m)) ∙ ap codeOf (sym (map-at truthOf 0 Truth.undefined L j p)) ∙
+  filling-all now a n F l m e o =
+      let T = take (length room) L in
+      let t : length T ≡ n = length-take (length room) L ∙ sym e in
+      let k : length (answersIn T) ≡ n = length-map T truthOf ∙ t in
+      let W = written-fills (answersIn T) room (omega (arith, o, k)) in
+      ext-getD 0 now (written (answersIn T) room) (F .long ∙ sym (W .long))
+      (λ j _. by-cases (decLt j n)
+      (λ p. F .answers j (omega (arith, p, m)) ∙
+      ap (λ (x : ℕ). codeOf (truthOf x)) (sym (getD-take (length room) L j 0 (omega (arith, p, o)))) ∙
+      ap codeOf (sym (map-at truthOf 0 Truth.undefined T j (omega (arith, p, t)))) ∙
       sym (W .answer j (omega (arith, p, k))))
       (λ p. F .later j (omega (arith, p, l)) ∙ sym (W .later j (omega (arith, p, k)))))
 
-pub room-there : (L room now : List ℕ) (a i : ℕ) → Filling L room now i → length L ≤ length room → a < length L →
-    a < length now
-room-there L room now a i F l m = omega (arith, F .long, l, m)
+pub room-there : (L room now : List ℕ) (a n i : ℕ) → Filling L room now i → n ≤ length room → a < n → a < length now
+room-there L room now a n i F l m = omega (arith, F .long, l, m)
 
 pub ruleset filling = (filling-none, filling-more, filling-all, room-there)

@@ -39,11 +39,19 @@ order-rest (suc (suc (suc zero))) w k n = refl
 order-rest (suc (suc (suc (suc g)))) w k n = refl
 
 module _ (g : ℕ) (w k : ℤ) (fw : SFits w64 w) (fk : SFits w64 k) where
+  pub order-else : (g ≡ 2 → ⊥) → ltZ (bits w) (bits k) ≡ order (aggregateOf g) w k
+  order-else n = rw (toZ-ofZ fw, toZ-ofZ fk) (order-rest g w k n)
+
   pub order-min : g ≡ 2 → ltZ (bits k) (bits w) ≡ order (aggregateOf g) w k
   order-min e = rw (e, toZ-ofZ fw, toZ-ofZ fk)
 
-  pub order-else : (g ≡ 2 → ⊥) → ltZ (bits w) (bits k) ≡ order (aggregateOf g) w k
-  order-else n = rw (toZ-ofZ fw, toZ-ofZ fk) (order-rest g w k n)
+  pub order-low : g < 2 → ltZ (bits w) (bits k) ≡ order (aggregateOf g) w k
+  order-low l = order-else (λ e. omega (arith, l, e))
+
+  pub order-max : g ≡ 3 → ltZ (bits w) (bits k) ≡ order (aggregateOf g) w k
+  order-max p = order-else (λ e. omega (arith, p, e))
+
+pub ruleset orders = (order-min, order-low, order-max, order-else)
 
 -- one element more
 pub added-is : (x : Extremes) (t : ℕ) (below above : Bool) →
@@ -111,11 +119,14 @@ module _ (x : Extremes) (r : ℕ) where
   pub picked-gt : r ≡ 4 → (x .definite && x .above) ≡ (x .definite && picked (relationOf r) x)
   picked-gt e = rw e
 
-  pub picked-rest : (r ≡ 0 → ⊥) → (r ≡ 1 → ⊥) → (r ≡ 2 → ⊥) → (r ≡ 3 → ⊥) → (r ≡ 4 → ⊥) →
-      (x .definite && x .reaching) ≡ (x .definite && picked (relationOf r) x)
-  picked-rest n0 n1 n2 n3 n4 = rw (relation-rest r n0 n1 n2 n3 n4)
+  pub picked-ge : r ≡ 5 → (x .definite && x .reaching) ≡ (x .definite && picked (relationOf r) x)
+  picked-ge e = rw e
 
-pub ruleset picks = (picked-eq, picked-ne, picked-lt, picked-le, picked-gt, picked-rest)
+  pub picked-rest : (r ≡ 0 → ⊥) → (r ≡ 1 → ⊥) → (r ≡ 2 → ⊥) → (r ≡ 3 → ⊥) → (r ≡ 4 → ⊥) → (r ≡ 5 → ⊥) →
+      (x .definite && x .reaching) ≡ (x .definite && picked (relationOf r) x)
+  picked-rest n0 n1 n2 n3 n4 n5 = rw (relation-rest r n0 n1 n2 n3 n4 n5)
+
+pub ruleset picks = (picked-eq, picked-ne, picked-lt, picked-le, picked-gt, picked-ge, picked-rest)
 
 -- the truth of a comparison of min or max, from what each step of its code says
 picked-is : (below : ℤ → ℤ → Bool) (A : Answers) (k : ℤ) (es : List Element) (r : Relation) →

@@ -143,12 +143,16 @@ module _ (r : ℕ) (low high k : ℤ) (fl : SFits w64 low) (fh : SFits w64 high)
   unfolding between
   between-gt e = rw (e, toZ-ofZ fl, toZ-ofZ fk)
 
-  pub between-rest : (r ≡ 0 → ⊥) → (r ≡ 1 → ⊥) → (r ≡ 2 → ⊥) → (r ≡ 3 → ⊥) → (r ≡ 4 → ⊥) →
+  pub between-ge : r ≡ 5 → not (ltZ (bits low) (bits k)) ≡ between (relationOf r) low high k
+  unfolding between
+  between-ge e = rw (e, toZ-ofZ fl, toZ-ofZ fk)
+
+  pub between-rest : (r ≡ 0 → ⊥) → (r ≡ 1 → ⊥) → (r ≡ 2 → ⊥) → (r ≡ 3 → ⊥) → (r ≡ 4 → ⊥) → (r ≡ 5 → ⊥) →
       not (ltZ (bits low) (bits k)) ≡ between (relationOf r) low high k
   unfolding between
-  between-rest n0 n1 n2 n3 n4 = rw (relation-rest r n0 n1 n2 n3 n4, toZ-ofZ fl, toZ-ofZ fk)
+  between-rest n0 n1 n2 n3 n4 n5 = rw (relation-rest r n0 n1 n2 n3 n4 n5, toZ-ofZ fl, toZ-ofZ fk)
 
-pub ruleset betweens = (between-eq, between-ne, between-lt, between-le, between-gt, between-rest)
+pub ruleset betweens = (between-eq, between-ne, between-lt, between-le, between-gt, between-ge, between-rest)
 
 -- the truth of a comparison that counts or sums, from what each step of its code says
 holds-sum : (g : ℕ) (r : Relation) (A : Answers) (es : List Element) (k : ℤ) → g < 2 →

@@ -27,19 +27,19 @@ relation-back Relation.ge = refl
 
 -- codes that are not listed are read as the last
 pub relation-rest : (x : ℕ) → (x ≡ 0 → ⊥) → (x ≡ 1 → ⊥) → (x ≡ 2 → ⊥) → (x ≡ 3 → ⊥) → (x ≡ 4 → ⊥) →
-    relationOf x ≡ Relation.ge
-relation-rest zero a b c d e = absurd (a refl)
-relation-rest (suc zero) a b c d e = absurd (b refl)
-relation-rest (suc (suc zero)) a b c d e = absurd (c refl)
-relation-rest (suc (suc (suc zero))) a b c d e = absurd (d refl)
-relation-rest (suc (suc (suc (suc zero)))) a b c d e = absurd (e refl)
-relation-rest (suc (suc (suc (suc (suc zero))))) a b c d e = refl
-relation-rest (suc (suc (suc (suc (suc (suc x)))))) a b c d e = refl
+    (x ≡ 5 → ⊥) → relationOf x ≡ Relation.ge
+relation-rest zero a b c d e f = absurd (a refl)
+relation-rest (suc zero) a b c d e f = absurd (b refl)
+relation-rest (suc (suc zero)) a b c d e f = absurd (c refl)
+relation-rest (suc (suc (suc zero))) a b c d e f = absurd (d refl)
+relation-rest (suc (suc (suc (suc zero)))) a b c d e f = absurd (e refl)
+relation-rest (suc (suc (suc (suc (suc zero))))) a b c d e f = absurd (f refl)
+relation-rest (suc (suc (suc (suc (suc (suc x)))))) a b c d e f = refl
 
 relation-past : (x : ℕ) → 6 ≤ x → relationOf x ≡ Relation.ge
 relation-past x l =
     relation-rest x (λ e. omega (arith, e)) (λ e. omega (arith, e)) (λ e. omega (arith, e)) (λ e. omega (arith, e))
-    (λ e. omega (arith, e))
+    (λ e. omega (arith, e)) (λ e. omega (arith, e))
 
 -- a table of codes follows a rule of relations, by one search through it
 module _ (rule : Relation → Relation) where
@@ -82,4 +82,11 @@ turned-else r (suc (suc zero)) n = absurd (n refl)
 turned-else r (suc (suc (suc zero))) n = refl
 turned-else r (suc (suc (suc (suc g)))) n = refl
 
-pub ruleset relations = (opposite-listed, opposite-past, mirror-listed, mirror-past, turned-min, turned-else)
+pub turned-low : (r g : ℕ) → g < 2 → relationOf r ≡ turned (aggregateOf g) (relationOf r)
+turned-low r g l = turned-else r g (λ e. omega (arith, l, e))
+
+pub turned-max : (r g : ℕ) → g ≡ 3 → relationOf r ≡ turned (aggregateOf g) (relationOf r)
+turned-max r g p = turned-else r g (λ e. omega (arith, p, e))
+
+pub ruleset relations =
+    (opposite-listed, opposite-past, mirror-listed, mirror-past, turned-min, turned-low, turned-max, turned-else)

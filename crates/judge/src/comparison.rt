@@ -22,7 +22,7 @@ pub fn comparison(book: &[u8], answers: &[u8], c: usize) -> u8
     let aggregate = comparison_aggregate(book, c);
     match aggregate {
         0 | 1 => sum_truth(book, answers, aggregate, c),
-        2 => extreme_truth(book, answers, aggregate, c),
-        3.. => extreme_truth(book, answers, aggregate, c),
+        2 | 3 => extreme_truth(book, answers, aggregate, c),
+        4.. => extreme_truth(book, answers, aggregate, c),
     }
 }

@@ -31,6 +31,7 @@ pub fn weight(book: &[u8], aggregate: usize, e: usize) -> i64
 {
     match aggregate {
         0 => 1,
-        _ => element_weight(book, e),
+        1..=3 => element_weight(book, e),
+        4.. => element_weight(book, e),
     }
 }

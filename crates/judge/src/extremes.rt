@@ -40,8 +40,10 @@ fn before(aggregate: usize, w: i64, k: i64) -> bool
     ensures { λ r. ⌜ r ≡ order (aggregateOf aggregate) w k ⌝ }
 {
     match aggregate {
+        0 | 1 => w < k,
         2 => k < w,
-        _ => w < k,
+        3 => w < k,
+        4.. => w < k,
     }
 }
 
@@ -104,8 +106,10 @@ fn turned_of(aggregate: usize, relation: usize) -> usize
     ensures { λ r. ⌜ relationOf r ≡ turned (aggregateOf aggregate) (relationOf relation) ⌝ }
 {
     match aggregate {
+        0 | 1 => relation,
         2 => mirror_of(relation),
-        _ => relation,
+        3 => relation,
+        4.. => relation,
     }
 }
 
@@ -119,7 +123,8 @@ fn attained(found: Extremes, relation: usize) -> bool
         2 => found.definite & found.below,
         3 => found.definite & found.within,
         4 => found.definite & found.above,
-        5.. => found.definite & found.reaching,
+        5 => found.definite & found.reaching,
+        6.. => found.definite & found.reaching,
     }
 }
 

@@ -77,7 +77,8 @@ fn between_holds(relation: usize, least: i64, most: i64, k: i64) -> bool
         2 => most < k,
         3 => !(k < most),
         4 => k < least,
-        5.. => !(least < k),
+        5 => !(least < k),
+        6.. => !(least < k),
     }
 }
 

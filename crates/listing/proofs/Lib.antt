@@ -1,4 +1,6 @@
 -- Laws of this crate, in reading order.
+-- what was read
+pub mod InputLaws
 -- text put into a buffer
 pub mod PutLaws
 -- numbers in decimal

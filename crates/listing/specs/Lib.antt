@@ -5,6 +5,8 @@ pub mod Ascii
 pub mod Text
 -- what is promised of it
 pub mod Listing
+-- what was read lies within its buffer
+pub mod Within
 -- text written into a buffer
 pub mod Put
 -- how long texts are at most

@@ -14,6 +14,6 @@ abbrev μ-loop : tie.MeasureT-loop
 pub write-answers-spec : {M : Type 1} → statement M
 write-answers-spec =
     tie.close
-    (tie.spec Inv-loop μ-loop (λ c. search (needs, filling)) (λ c κs. search needs) (λ c. search (needs, filling))
-    (λ c. search needs) (λ c. search needs) (λ c. search (needs, filling)) (λ c. search (needs, filling))
-    (λ c. search (needs, filling)))
+    (tie.spec Inv-loop μ-loop (λ c κs. search needs) (λ c. search (needs, filling)) (λ c κs. search needs)
+    (λ c. search (needs, filling)) (λ c. search needs) (λ c. search needs) (λ c. search (needs, filling))
+    (λ c. search (needs, filling)) (λ c. search (needs, filling)))

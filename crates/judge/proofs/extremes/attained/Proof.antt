@@ -8,4 +8,4 @@ pub attained-spec : {M : Type 1} → statement M
 attained-spec =
     tie.close
     (tie.spec (λ c. search (needs, picks)) (λ c. search (needs, picks)) (λ c. search (needs, picks))
-    (λ c. search (needs, picks)) (λ c. search (needs, picks)) (λ c. search (needs, picks)))
+    (λ c. search (needs, picks)) (λ c. search (needs, picks)) (λ c. search (needs, picks)) (λ c. search (needs, picks)))

@@ -7,4 +7,5 @@ use Rattle.judge.proofs.extremes.turned_of.Tie as tie
 pub turned-of-spec : {M : Type 1} → statement M
 turned-of-spec =
     tie.close
-    (tie.spec (λ c κs. search needs) (λ c. search (needs, relations)) (λ c. search (needs, relations)))
+    (tie.spec (λ c κs. search needs) (λ c. search (needs, relations)) (λ c. search (needs, relations))
+    (λ c. search (needs, relations)) (λ c. search (needs, relations)))

@@ -8,4 +8,5 @@ pub between-holds-spec : {M : Type 1} → statement M
 between-holds-spec =
     tie.close
     (tie.spec (λ c. search (needs, betweens)) (λ c. search (needs, betweens)) (λ c. search (needs, betweens))
-    (λ c. search (needs, betweens)) (λ c. search (needs, betweens)) (λ c. search (needs, betweens)))
+    (λ c. search (needs, betweens)) (λ c. search (needs, betweens)) (λ c. search (needs, betweens))
+    (λ c. search (needs, betweens)))
