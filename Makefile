@@ -44,10 +44,11 @@ compare: library
 	@$(BUILD_SECOND)
 	@target/second/release/compare
 
-# make bench: times of the engine, of its rounds written plainly and of the second program, and its stack.
+# make bench: times of the engine, of its rounds written plainly and of the second program, and its stack; then the
+# hostile books. BENCH=hostile: these alone; BENCH="hostile 4": the fourth; BENCH="hostile 4 10": a tenth of it.
 bench: library
 	@$(BUILD_SECOND)
-	@target/second/release/bench
+	@target/second/release/bench $(BENCH)
 
 # make count: the same books by instructions, which are the same in every run. Needs valgrind.
 count: library
