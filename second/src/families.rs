@@ -1,6 +1,7 @@
 // The books of the benchmark, at the limits of document 01.
 
-use crate::builder::{Builder, Hyp, CERTAIN, CLOSED, COMPLETE, COUNT, GE, GT, LE, MAX, MIN, SUM};
+use crate::builder::{Builder, Hyp};
+use crate::codes::{CERTAIN, CLOSED, COMPLETE, COUNT, GE, GT, LE, MAX, MIN, SUM};
 use crate::full;
 use crate::random::Random;
 use crate::tables::Tables;

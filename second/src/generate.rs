@@ -1,6 +1,7 @@
 // Seeded small books: most are accepted, some are left as drawn, the others have one fault or more.
 
-use crate::builder::{Builder, Hyp, CERTAIN, CLOSED, COMPLETE, COUNT, GE, GT, LE, LT, MAX, MIN, OPEN, SUM};
+use crate::builder::{Builder, Hyp};
+use crate::codes::{CERTAIN, CLOSED, COMPLETE, COUNT, GE, GT, LE, LT, MAX, MIN, OPEN, SUM};
 use crate::faults;
 use crate::random::Random;
 use crate::refuse;

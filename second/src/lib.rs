@@ -1,6 +1,7 @@
 // The second program, written from document 01 alone, and what compares it with the engine.
 
 pub mod builder;
+pub mod codes;
 pub mod damage;
 pub mod engine;
 pub mod families;

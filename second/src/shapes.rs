@@ -1,7 +1,8 @@
 // The shapes of hostile books: rounds that decide one atom each, and in each of them passes of step (c) that strike out
 // one atom each, by rules that the engine has not remembered.
 
-use crate::builder::{Builder, Hyp, CLOSED, COMPLETE, GE, OPEN, SUM};
+use crate::builder::{Builder, Hyp};
+use crate::codes::{CLOSED, COMPLETE, GE, OPEN, SUM};
 use crate::tables::Tables;
 
 #[derive(Clone, Copy, Debug, PartialEq, Eq)]
