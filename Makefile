@@ -39,7 +39,8 @@ host: library
 	@mkdir -p target/host
 	@cc -std=c99 -Wall -Wextra -Werror -O2 -Iinclude host/logger.c $(LIBRARY) -o target/host/logger
 
-# make compare: the engine and the second program on the fixtures, at the limits and on 200,000 seeded books.
+# make compare: the engine and the second program on the fixtures, at the limits, on short hostile books and on 200,000
+# seeded ones.
 compare: library
 	@$(BUILD_SECOND)
 	@target/second/release/compare

@@ -60,10 +60,7 @@ fn reversed(mut tables: Tables) -> Tables {
 }
 
 fn shuffled(mut tables: Tables) -> Tables {
-    let mut random = Random::new(7);
-    for end in (1..tables.rules.len()).rev() {
-        tables.rules.swap(end, random.below(end + 1));
-    }
+    Random::new(7).shuffle(&mut tables.rules);
     tables
 }
 

@@ -23,6 +23,7 @@ pub mod rooms;
 pub mod rounds;
 pub mod sample;
 pub mod seeds;
+pub mod shaped;
 pub mod shapes;
 pub mod show;
 pub mod stack;
