@@ -51,7 +51,8 @@ bench: library
 	@$(BUILD_SECOND)
 	@target/second/release/bench $(BENCH)
 
-# make count: the same books by instructions, which are the same in every run. Needs valgrind.
+# make count: the same books by instructions, which are the same in every run; COUNT=hostile: those of the hostile books
+# that second/count lists. Needs valgrind.
 count: library
 	@$(BUILD_SECOND)
-	@second/count
+	@second/count $(COUNT)
