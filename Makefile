@@ -39,17 +39,20 @@ host: library
 	@mkdir -p target/host
 	@cc -std=c99 -Wall -Wextra -Werror -O2 -Iinclude host/logger.c $(LIBRARY) -o target/host/logger
 
-# make compare: the engine and the second program on the fixtures, at the limits and on 200,000 seeded books.
+# make compare: the engine and the second program on the fixtures, at the limits, on short hostile books and on 200,000
+# seeded ones.
 compare: library
 	@$(BUILD_SECOND)
 	@target/second/release/compare
 
-# make bench: times of the engine, of its rounds written plainly and of the second program, and its stack.
+# make bench: times of the engine, of its rounds written plainly and of the second program, and its stack; then the
+# hostile books. BENCH=hostile: these alone; BENCH="hostile 4": the fourth; BENCH="hostile 4 10": a tenth of it.
 bench: library
 	@$(BUILD_SECOND)
-	@target/second/release/bench
+	@target/second/release/bench $(BENCH)
 
-# make count: the same books by instructions, which are the same in every run. Needs valgrind.
+# make count: the same books by instructions, which are the same in every run; COUNT=hostile: those of the hostile books
+# that second/count lists. Needs valgrind.
 count: library
 	@$(BUILD_SECOND)
-	@second/count
+	@second/count $(COUNT)

@@ -2,23 +2,6 @@
 
 use crate::tables::Tables;
 
-pub const CERTAIN: u8 = 0;
-pub const OPEN: u8 = 1;
-pub const COMPLETE: u8 = 2;
-pub const CLOSED: u8 = 3;
-
-pub const COUNT: u8 = 0;
-pub const SUM: u8 = 1;
-pub const MIN: u8 = 2;
-pub const MAX: u8 = 3;
-
-pub const EQ: u8 = 0;
-pub const NE: u8 = 1;
-pub const LT: u8 = 2;
-pub const LE: u8 = 3;
-pub const GT: u8 = 4;
-pub const GE: u8 = 5;
-
 /// A hypothesis: an atom, an atom under "not", or a comparison, by index.
 #[derive(Clone, Copy)]
 pub enum Hyp {

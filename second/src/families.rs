@@ -1,6 +1,7 @@
 // The books of the benchmark, at the limits of document 01.
 
-use crate::builder::{Builder, Hyp, CERTAIN, CLOSED, COMPLETE, COUNT, GE, GT, LE, MAX, MIN, SUM};
+use crate::builder::{Builder, Hyp};
+use crate::codes::{CERTAIN, CLOSED, COMPLETE, COUNT, GE, GT, LE, MAX, MIN, SUM};
 use crate::full;
 use crate::random::Random;
 use crate::tables::Tables;
@@ -37,7 +38,6 @@ pub fn all() -> Vec<Family> {
     add("random rules, every table full", full::tables(&mut Random::new(1)));
     add("random rules, one closed predicate", random_rules());
     add("every rule over all 4,096 hypotheses", all_hypotheses());
-    add("chain over growing ranges", growing_ranges());
     add("512 comparisons over 2,048 elements, complete", all_elements(COMPLETE, 512));
     add("64 comparisons over 2,048 elements, closed", all_elements(CLOSED, 64));
     add("all hypotheses and all elements", all_of_both());
@@ -60,10 +60,7 @@ fn reversed(mut tables: Tables) -> Tables {
 }
 
 fn shuffled(mut tables: Tables) -> Tables {
-    let mut random = Random::new(7);
-    for end in (1..tables.rules.len()).rev() {
-        tables.rules.swap(end, random.below(end + 1));
-    }
+    Random::new(7).shuffle(&mut tables.rules);
     tables
 }
 
@@ -271,14 +268,6 @@ fn all_hypotheses() -> Tables {
     let mut builder = atoms_of(COMPLETE, 2048);
     builder.tables.hypotheses = (0..4096).map(|number| (0, number % 2048)).collect();
     builder.tables.rules = (0..2048).map(|head| (head, 0, 4096)).collect();
-    builder.tables
-}
-
-/// A chain in which each atom needs all the atoms before it.
-fn growing_ranges() -> Tables {
-    let mut builder = atoms_of(CLOSED, 2048);
-    builder.tables.hypotheses = (0..2047).map(|atom| (0, atom)).collect();
-    builder.tables.rules = (0..2048).rev().map(|head| (head, 0, head)).collect();
     builder.tables
 }
 

@@ -1,6 +1,6 @@
 // Faults put into the tables or bytes of an accepted book, at least one for each of the refusals 1 to 11.
 
-use crate::builder::{CERTAIN, CLOSED, COMPLETE, COUNT, EQ, GE, MAX, OPEN, SUM};
+use crate::codes::{CERTAIN, CLOSED, COMPLETE, COUNT, EQ, GE, MAX, OPEN, SUM};
 use crate::random::Random;
 use crate::tables::Tables;
 

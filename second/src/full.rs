@@ -1,6 +1,7 @@
 // Random accepted books with every table full: 64,816 bytes.
 
-use crate::builder::{Builder, Hyp, CERTAIN, CLOSED, COMPLETE, COUNT, GE, OPEN};
+use crate::builder::{Builder, Hyp};
+use crate::codes::{CERTAIN, CLOSED, COMPLETE, COUNT, GE, OPEN};
 use crate::generate::{bound, give, usable, weight};
 use crate::random::Random;
 use crate::tables::Tables;

@@ -1,9 +1,13 @@
-// Seeded small books: most are accepted, some are left as drawn, the others have one fault or more.
+// Seeded small books: most are accepted, some of these of a hostile shape; some are left as drawn, the others have one
+// fault or more.
 
-use crate::builder::{Builder, Hyp, CERTAIN, CLOSED, COMPLETE, COUNT, GE, GT, LE, LT, MAX, MIN, OPEN, SUM};
+use crate::builder::{Builder, Hyp};
+use crate::codes::{CERTAIN, CLOSED, COMPLETE, COUNT, GE, GT, LE, LT, MAX, MIN, OPEN, SUM};
 use crate::faults;
 use crate::random::Random;
 use crate::refuse;
+use crate::shaped;
+use crate::shapes::Shape;
 use crate::tables::Tables;
 
 /// Aggregate and relation, and how many elements of a hundred have sign 1, so that each is used positively.
@@ -18,14 +22,24 @@ const POSITIVE: [(u8, u8, usize); 8] = [
     (COUNT, LE, 100),
 ];
 
-/// The book of a seed.
-pub fn book(seed: u64) -> Vec<u8> {
+/// The book of a seed, and its shape if it is of one.
+pub struct Seeded {
+    pub book: Vec<u8>,
+    pub shape: Option<Shape>,
+}
+
+pub fn seeded(seed: u64) -> Seeded {
     let mut random = Random::new(seed);
-    match random.below(100) {
-        0..=54 => drawn(&mut random, Drawn::Accepted).bytes(),
+    let book = match random.below(100) {
+        0..=1 => {
+            let (shape, tables) = shaped::drawn(&mut random);
+            return Seeded { book: tables.bytes(), shape: Some(shape) };
+        }
+        2..=54 => drawn(&mut random, Drawn::Accepted).bytes(),
         55..=64 => drawn(&mut random, Drawn::AsItComes).bytes(),
         _ => faults::book_with_faults(drawn(&mut random, Drawn::Accepted), &mut random),
-    }
+    };
+    Seeded { book, shape: None }
 }
 
 /// Whether a record that the second program would refuse is taken back. If each were, a refusal that only the second

@@ -1,6 +1,7 @@
 // The second program, written from document 01 alone, and what compares it with the engine.
 
 pub mod builder;
+pub mod codes;
 pub mod damage;
 pub mod engine;
 pub mod families;
@@ -9,7 +10,9 @@ pub mod fixtures;
 pub mod full;
 pub mod generate;
 pub mod gifts;
+pub mod hostile;
 pub mod limits;
+pub mod measure;
 pub mod model;
 pub mod parts;
 pub mod random;
@@ -20,6 +23,8 @@ pub mod rooms;
 pub mod rounds;
 pub mod sample;
 pub mod seeds;
+pub mod shaped;
+pub mod shapes;
 pub mod show;
 pub mod stack;
 pub mod tables;

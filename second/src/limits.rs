@@ -1,6 +1,7 @@
 // Books at every limit of document 01 and one past it.
 
-use crate::builder::{Builder, Hyp, CLOSED, COMPLETE, COUNT, GE, OPEN, SUM};
+use crate::builder::{Builder, Hyp};
+use crate::codes::{CLOSED, COMPLETE, COUNT, GE, OPEN, SUM};
 use crate::full;
 use crate::random::Random;
 use crate::tables::Tables;

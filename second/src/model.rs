@@ -2,7 +2,7 @@
 
 use std::collections::BTreeSet;
 
-use crate::builder::{CERTAIN, CLOSED, COMPLETE};
+use crate::codes::{CERTAIN, CLOSED, COMPLETE};
 use crate::tables::Tables;
 use crate::truth::{self, Truth};
 

@@ -1,8 +1,9 @@
-// The parts of the comparison that take no seed: books at the limits, and fixtures with their expected outcome.
+// The parts of the comparison that take no seed: books at the limits, hostile books, and fixtures with their expected
+// outcome.
 
 use crate::fixtures::{self, Expected, Fixture, Room};
 use crate::refuse::Refusal;
-use crate::{engine, limits, rooms, witness, Program};
+use crate::{engine, hostile, limits, rooms, witness, Program};
 
 /// Compares the books at the limits in rooms of three sorts; says how many there are.
 pub fn compare_limits() -> Result<usize, String> {
@@ -12,6 +13,21 @@ pub fn compare_limits() -> Result<usize, String> {
         rooms::compare_all(&limit.book, 0)?;
     }
     Ok(limits.len())
+}
+
+/// Compares the hostile books with so many of a hundred of their links; says how many there are.
+pub fn compare_hostile(percent: usize) -> Result<usize, String> {
+    let books = hostile::all(percent);
+    for hostile in &books {
+        witness::remember(format!("hostile, {percent} of a hundred: {}", hostile.name));
+        let book = hostile.tables.bytes();
+        let outcomes = rooms::compare_all(&book, 0)?;
+        rooms::compare_rounds(&book, &outcomes.exact, 0)?;
+        if outcomes.exact.number != 0 {
+            return Err(format!("refused with {}", outcomes.exact.number));
+        }
+    }
+    Ok(books.len())
 }
 
 /// Compares the fixtures with what both programs say of them; says how many there are.

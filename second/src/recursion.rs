@@ -2,10 +2,10 @@
 
 use crate::tables::Tables;
 
-/// Does some undefined atom reach itself through rules over undefined atoms? For books of at most 64 atoms.
+/// Does some undefined atom reach itself through rules over undefined atoms? For books of at most 128 atoms.
 pub fn undefined_by_recursion(tables: &Tables, answers: &[u8]) -> bool {
     let undefined = |atom: u16| answers[usize::from(atom)] == 0;
-    let mut reached = vec![0u64; tables.atoms.len()];
+    let mut reached = vec![0u128; tables.atoms.len()];
     for rule in tables.rules.iter().filter(|rule| undefined(rule.0)) {
         for &(sort, index) in tables.hypotheses_of(rule) {
             let one = [(0, index, 0)];

@@ -1,6 +1,6 @@
 // The refusals 1 to 12 in number order, each a search for the lowest record of the first table at fault.
 
-use crate::builder::{CERTAIN, OPEN};
+use crate::codes::{CERTAIN, OPEN};
 use crate::read::{self, Entry};
 use crate::tables::Tables;
 use crate::uses;

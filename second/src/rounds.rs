@@ -1,7 +1,7 @@
 // The engine's rounds written plainly, a baseline for its times: a round takes all three steps at once from the answers
 // before it. Reader, refusals and truths are the second program's.
 
-use crate::builder::{CERTAIN, CLOSED, COMPLETE};
+use crate::codes::{CERTAIN, CLOSED, COMPLETE};
 use crate::tables::Tables;
 use crate::truth::{self, Truth};
 

@@ -1,16 +1,17 @@
 // One seed: its book in three rooms, its gift where it can have one, and for every fourth seed its damaged copy; every
 // tenth accepted book by the plain rounds too.
 
+use crate::generate::{self, Seeded};
 use crate::random::Random;
 use crate::tally::Tally;
-use crate::{damage, generate, gifts, read, refuse, rooms, show};
+use crate::{damage, gifts, read, refuse, rooms, show};
 
 /// Compares everything that a seed stands for; an error says what differs.
 pub fn compare(seed: u64, tally: &mut Tally) -> Result<(), String> {
-    let book = generate::book(seed);
+    let Seeded { book, shape } = generate::seeded(seed);
     let outcomes = rooms::compare_all(&book, seed)?;
     let tables = (outcomes.exact.number == 0).then(|| read::tables(&book));
-    tally.count(&outcomes, tables.as_ref());
+    tally.count(&outcomes, tables.as_ref(), shape);
     if let Some(tables) = tables {
         if tally.is_tenth() {
             rooms::compare_rounds(&book, &outcomes.exact, seed)?;
@@ -30,12 +31,12 @@ pub fn compare(seed: u64, tally: &mut Tally) -> Result<(), String> {
 
 /// The damaged copy of a seed's book.
 fn damaged(seed: u64) -> Vec<u8> {
-    damage::damaged(generate::book(seed), &mut Random::new(seed ^ 0x6272_6f6b_656e))
+    damage::damaged(generate::seeded(seed).book, &mut Random::new(seed ^ 0x6272_6f6b_656e))
 }
 
 /// Prints everything that a seed stands for.
 pub fn show(seed: u64) {
-    let book = generate::book(seed);
+    let book = generate::seeded(seed).book;
     println!("seed {seed}");
     show::book(&book, seed);
     if let Ok(tables) = refuse::check(&book, usize::MAX) {

@@ -1,6 +1,6 @@
 // The six tables of a book as plain records, and the bytes of a book that holds them.
 
-use crate::builder::OPEN;
+use crate::codes::OPEN;
 
 /// One field for each table, one tuple for each record, in the order of document 01.
 #[derive(Clone, Debug, Default, PartialEq, Eq)]

@@ -3,6 +3,7 @@
 use crate::gifts::Gift;
 use crate::recursion;
 use crate::rooms::Outcomes;
+use crate::shapes::{Shape, SHAPES};
 use crate::tables::Tables;
 
 #[derive(Default)]
@@ -14,6 +15,7 @@ pub struct Tally {
     answers: [u64; 3],
     undefined: u64,
     recursive: u64,
+    shaped: [u64; SHAPES.len()],
     refused: [u64; 13],
     gifts: u64,
     kept: u64,
@@ -21,8 +23,8 @@ pub struct Tally {
 }
 
 impl Tally {
-    /// One book in its three rooms; the tables are those of an accepted book.
-    pub fn count(&mut self, outcomes: &Outcomes, tables: Option<&Tables>) {
+    /// One book in its three rooms; the tables are those of an accepted book, the shape that of a book of one.
+    pub fn count(&mut self, outcomes: &Outcomes, tables: Option<&Tables>, shape: Option<Shape>) {
         self.books += 1;
         let exact = &outcomes.exact;
         self.refused[(exact.number / 10_000_000) as usize] += 1;
@@ -37,6 +39,9 @@ impl Tally {
             }
             self.undefined += u64::from(answers.contains(&0));
             self.recursive += u64::from(recursion::undefined_by_recursion(tables, answers));
+            if let Some(shape) = shape {
+                self.shaped[shape as usize] += 1;
+            }
         }
     }
 
@@ -62,6 +67,9 @@ impl Tally {
         let [undefined, true_, false_] = self.answers;
         println!("answers: {undefined} undefined, {true_} true, {false_} false");
         println!("undefined answers in {} accepted books, by recursion in {}", self.undefined, self.recursive);
+        for shape in SHAPES {
+            println!("shape {shape:?}: {} accepted books", self.shaped[shape as usize]);
+        }
         for number in 1..=12 {
             println!("refusal {number}: {}", self.refused[number]);
         }
@@ -84,10 +92,12 @@ impl Tally {
         ];
         let scarce = enough.into_iter().find(|&(_, number, least)| number < least);
         let rare = (1..=12).find(|&number| self.refused[number] < 1000);
-        match (scarce, rare) {
-            (Some((what, number, least)), _) => Some(format!("{number} {what}, at least {least} wanted")),
-            (None, Some(number)) => Some(format!("refusal {number} occurred less than 1000 times")),
-            (None, None) => None,
+        let missed = SHAPES.into_iter().find(|&shape| self.shaped[shape as usize] < 400);
+        match (scarce, rare, missed) {
+            (Some((what, number, least)), ..) => Some(format!("{number} {what}, at least {least} wanted")),
+            (_, Some(number), _) => Some(format!("refusal {number} occurred less than 1000 times")),
+            (.., Some(shape)) => Some(format!("shape {shape:?} occurred in less than 400 accepted books")),
+            (None, None, None) => None,
         }
     }
 }

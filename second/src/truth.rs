@@ -1,6 +1,6 @@
 // The three answers, and the truth of a literal and of a comparison at the answers so far.
 
-use crate::builder::{COUNT, EQ, GE, GT, LE, LT, MAX, NE, SUM};
+use crate::codes::{COUNT, EQ, GE, GT, LE, LT, MAX, NE, SUM};
 
 #[derive(Clone, Copy, Debug, PartialEq, Eq)]
 pub enum Truth {

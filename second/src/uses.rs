@@ -1,6 +1,6 @@
 // The predicates that a rule uses, by its literals and by all elements of its comparisons.
 
-use crate::builder::{COUNT, GE, GT, LE, LT, MAX, MIN};
+use crate::codes::{COUNT, GE, GT, LE, LT, MAX, MIN};
 use crate::tables::Tables;
 
 /// One predicate used, and whether that use is positive.

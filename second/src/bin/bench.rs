@@ -1,18 +1,38 @@
-// The benchmark: the engine, its rounds written plainly and the second program side by side, one table, one run.
+// The benchmark: the engine, its rounds written plainly and the second program side by side, two tables, one run.
+// bench: both tables; bench books, bench hostile: one; bench hostile NUMBER [PERCENT]: one hostile book, or so many of a
+// hundred of its links.
 
-use std::time::{Duration, Instant};
+use std::ops::RangeInclusive;
+use std::process::ExitCode;
 
 use second::families::{self, Family};
-use second::{engine, rounds, stack, Program};
+use second::hostile::{self, Hostile};
+use second::measure::measure;
+use second::{engine, rounds, stack};
 
-/// A program is run at least five times and until its runs have taken this long together, or as often as allowed.
-const ENOUGH: Duration = Duration::from_millis(200);
-const MOST_RUNS: usize = 101;
+const ALL: RangeInclusive<usize> = 1..=usize::MAX;
 
-/// Runs that have taken this long together are not repeated, be they fewer than five.
-const TOO_LONG: Duration = Duration::from_secs(8);
+fn main() -> ExitCode {
+    let words: Vec<String> = std::env::args().skip(1).collect();
+    match words.iter().map(String::as_str).collect::<Vec<_>>()[..] {
+        [] => {
+            print_books();
+            println!();
+            print_hostile(ALL, 100);
+        }
+        ["books"] => print_books(),
+        ["hostile"] => print_hostile(ALL, 100),
+        ["hostile", number] => print_hostile(one(number), 100),
+        ["hostile", number, percent] => print_hostile(one(number), parsed(percent)),
+        _ => {
+            println!("bench | bench books | bench hostile | bench hostile NUMBER [PERCENT]");
+            return ExitCode::from(2);
+        }
+    }
+    ExitCode::SUCCESS
+}
 
-fn main() {
+fn print_books() {
     let (_, empty) = stack::used(|_, _| 0, &[], &mut []);
     println!("Median times in ms; the stack in KB is what a thread touched that made the engine's one call.");
     println!("An empty call touched {} KB of such a stack.", in_kb(empty));
@@ -36,53 +56,64 @@ fn row(family: &Family) -> String {
     assert_eq!(ours.answers, second.answers, "{}: the answers differ", family.name);
     let (number, touched) = stack::used(engine::answer, &book, &mut vec![0; atoms]);
     assert_eq!(number, 0, "{}: refused", family.name);
-    let how_many = |answer: u8| ours.answers.iter().filter(|&&other| other == answer).count();
     format!(
-        "| {} | {} | {:.3} | {:.3} | {:.3} | {:.2} | {:.2} | {} | {} | {} | {} |",
+        "| {} | {} | {} | {} | {} | {:.2} | {:.2} | {} | {} |",
         family.name,
         book.len(),
-        in_ms(ours.median),
-        in_ms(rounds.median),
-        in_ms(second.median),
+        ours.in_ms(),
+        rounds.in_ms(),
+        second.in_ms(),
         ours.over(&rounds),
         ours.over(&second),
-        how_many(1),
-        how_many(2),
-        how_many(0),
+        ours.counts(),
         in_kb(touched),
     )
 }
 
-struct Measured {
-    median: Duration,
-    answers: Vec<u8>,
-}
-
-impl Measured {
-    fn over(&self, other: &Measured) -> f64 {
-        self.median.as_secs_f64() / other.median.as_secs_f64()
+/// The hostile books from one number to another, with so many of a hundred of their links.
+fn print_hostile(numbers: RangeInclusive<usize>, percent: usize) {
+    let books: Vec<(usize, Hostile)> =
+        (1..).zip(hostile::all(percent)).filter(|(number, _)| numbers.contains(number)).collect();
+    println!("Hostile books, median times in ms; - where the plain rounds take long.");
+    println!();
+    for (number, book) in &books {
+        println!("{number}. {}: {}.", book.name, book.made);
+    }
+    println!();
+    println!("| hostile book | bytes | engine | rounds | second | true | false | undefined |");
+    println!("|---|--:|--:|--:|--:|--:|--:|--:|");
+    for (number, book) in &books {
+        println!("| {number} {} |", hostile_row(book));
     }
 }
 
-fn measure(program: Program, book: &[u8], atoms: usize) -> Measured {
-    let mut answers = vec![0xff; atoms];
-    let mut times: Vec<Duration> = vec![];
-    loop {
-        let start = Instant::now();
-        let number = program(book, &mut answers);
-        times.push(start.elapsed());
-        assert_eq!(number, 0, "the book is accepted");
-        let total: Duration = times.iter().sum();
-        if total >= TOO_LONG || times.len() >= 5 && total >= ENOUGH || times.len() == MOST_RUNS {
-            break;
-        }
+fn hostile_row(hostile: &Hostile) -> String {
+    let book = hostile.tables.bytes();
+    let atoms = hostile.tables.atoms.len();
+    let second = measure(second::answer, &book, atoms);
+    let rounds = hostile.rounds.then(|| measure(rounds::answer, &book, atoms));
+    let ours = measure(engine::answer, &book, atoms);
+    if let Some(rounds) = &rounds {
+        assert_eq!(ours.answers, rounds.answers, "{}: the answers of the rounds differ", hostile.name);
     }
-    times.sort();
-    Measured { median: times[times.len() / 2], answers }
+    assert_eq!(ours.answers, second.answers, "{}: the answers differ", hostile.name);
+    format!(
+        "{} | {} | {} | {} | {} | {}",
+        hostile.name,
+        book.len(),
+        ours.in_ms(),
+        rounds.map_or("-".into(), |rounds| rounds.in_ms()),
+        second.in_ms(),
+        ours.counts(),
+    )
 }
 
-fn in_ms(time: Duration) -> f64 {
-    time.as_secs_f64() * 1000.0
+fn one(number: &str) -> RangeInclusive<usize> {
+    parsed(number)..=parsed(number)
+}
+
+fn parsed(number: &str) -> usize {
+    number.parse().expect("a number")
 }
 
 fn in_kb(bytes: usize) -> String {

@@ -1,5 +1,5 @@
-// Compares the engine with the second program, byte by byte: fixtures, limits, seeded books, gifts, damaged bytes; and
-// the sample book with its fixture.
+// Compares the engine with the second program, byte by byte: fixtures, limits, hostile books at a twentieth of their
+// length, seeded books, gifts, damaged bytes; and the sample book with its fixture.
 // compare [--from S] [--books N]: the seeds from S on, 0 and 200,000 unless said; compare --seed S: one, in full.
 
 use std::process::ExitCode;
@@ -74,6 +74,8 @@ fn every_part(options: &Options) -> Result<u64, String> {
     println!("the sample book and its names as its fixture says");
     let limits = parts::compare_limits()?;
     println!("{limits} books at the limits");
+    let hostile = parts::compare_hostile(5)?;
+    println!("{hostile} hostile books at a twentieth of their length");
     let mut tally = Tally::default();
     for seed in options.from..options.from + options.books {
         remember(seed);
@@ -83,6 +85,6 @@ fn every_part(options: &Options) -> Result<u64, String> {
     witness::remember("all the seeds".into());
     match tally.too_little() {
         Some(what) if options.books >= ALL_BOOKS => Err(what),
-        _ => Ok(tally.compared() + (fixtures + rooms + limits) as u64),
+        _ => Ok(tally.compared() + (fixtures + rooms + limits + hostile) as u64),
     }
 }
