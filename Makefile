@@ -34,10 +34,12 @@ run: listing
 	@target/bin/listing < samples/night.book | awk 'NR == FNR { name[NR - 1] = $$0; next } \
 		FNR > 1 { $$0 = sprintf("%-14s ", $$0) name[$$1] } { print }' samples/night.names -
 
-# make host: the example host in C, target/host/logger.
-host: library
+# make host: the example host in C.
+host: target/host/logger
+
+target/host/logger: $(LIBRARY) include/doughpillar.h $(wildcard host/*.c host/*.h)
 	@mkdir -p target/host
-	@cc -std=c99 -Wall -Wextra -Werror -O2 -Iinclude host/logger.c $(LIBRARY) -o target/host/logger
+	@$(CC) -std=c99 -Wall -Wextra -O2 -Iinclude $(wildcard host/*.c) $(LIBRARY) -o $@
 
 # make compare: the engine and the second program on the fixtures, at the limits and on 200,000 seeded books.
 compare: library
