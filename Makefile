@@ -13,6 +13,7 @@ test:
 	@tests/host/run
 	@$(MAKE) --no-print-directory --jobs=2 --output-sync listing compare
 	@tests/listing/run
+	@tests/pages/run
 	@rt ci
 
 # make library: proves the engine and archives it, if a crate has changed.
@@ -29,10 +30,15 @@ target/bin/listing: crates.txt $(shell find crates)
 	@mkdir -p target
 	@rt check listing > target/listing.log 2>&1 || { cat target/listing.log; exit 1; }
 
-# make run: answers the sample book with the listing program, the atoms' names beside the answers.
-run: listing
-	@target/bin/listing < samples/night.book | awk 'NR == FNR { name[NR - 1] = $$0; next } \
-		FNR > 1 { $$0 = sprintf("%-14s ", $$0) name[$$1] } { print }' samples/night.names -
+# make run BOOK=FILE NAMES=FILE: answers a book with the example host; NAMES, a name for each atom, may be left out.
+# Without BOOK it is the sample book. A refusal is an answer too, and no error of make's.
+ifndef BOOK
+BOOK := samples/night.book
+NAMES := samples/night.names
+endif
+
+run: host
+	@target/host/logger '$(BOOK)' $(if $(NAMES),'$(NAMES)') || [ $$? -eq 1 ]
 
 # make host: the example host in C.
 host: target/host/logger
