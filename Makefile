@@ -13,6 +13,7 @@ test:
 	@tests/host/run
 	@$(MAKE) --no-print-directory --jobs=2 --output-sync listing compare
 	@tests/listing/run
+	@tests/install/run
 	@tests/pages/run
 	@rt ci
 
@@ -61,3 +62,6 @@ bench: library
 count: library
 	@$(BUILD_SECOND)
 	@second/count
+
+# make shared, install, uninstall
+include host/install.mk
