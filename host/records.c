@@ -121,7 +121,7 @@ static int explain_given(const struct report *report, uint32_t atom)
     if (rule < count_of(book, RULES))
         fprintf(report->out, "  rule %u concludes it, and only atoms that no rule concludes may be given\n",
                 (unsigned)rule);
-    return kind != 1 || rule < count_of(book, RULES);
+    return field_of(book, GIVEN, atom) != 0 && (kind != 1 || rule < count_of(book, RULES));
 }
 
 int explain_record(const struct report *report, unsigned number, int table, uint32_t record)

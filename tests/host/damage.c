@@ -1,5 +1,5 @@
-/* Explains what is wrong with many damaged books: whatever the engine refuses, the host finds at its place, and it
-   reads nothing outside the book (each has memory of just its length, for valgrind to see).
+/* Explains what is wrong with many damaged books: what the engine refuses the host finds at its place, and nothing
+   before it. It reads nothing outside the book: each has memory of just its length, for valgrind to see.
    usage: damage BOOK NAMES */
 #include "explain.h"
 
@@ -41,6 +41,18 @@ static void damage_comparisons(uint8_t *bytes, const struct book *book)
     bytes[byte_of(book, ATOM, below(elements))] = bytes[byte_of(book, ATOM, below(elements))];
 }
 
+/* All predicates but 0 certain and on one level, no hypothesis under not, and the elements' signs anew: so that it
+   depends on the comparisons alone whether a use is not positive. */
+static void damage_signs(uint8_t *bytes, const struct book *book)
+{
+    for (uint32_t p = 1; p < count_of(book, PREDICATES); p++)
+        bytes[byte_of(book, KIND, p)] = 0;
+    for (uint32_t h = 0; h < count_of(book, HYPOTHESES); h++)
+        bytes[byte_of(book, SORT, h)] &= 2;
+    for (uint32_t e = 0; e < count_of(book, ELEMENTS); e++)
+        bytes[byte_of(book, SIGN, e)] = (uint8_t)below(2);
+}
+
 /* A few bytes changed, most of them to small numbers. */
 static void damage_bytes(uint8_t *bytes, const struct book *book)
 {
@@ -51,13 +63,36 @@ static void damage_bytes(uint8_t *bytes, const struct book *book)
 /* One damage or more; gives the length that is left. */
 static size_t damage(uint8_t *bytes, const struct book *book)
 {
-    if (below(2))
+    uint32_t signs = below(4) == 0;
+    if (signs)
+        damage_signs(bytes, book);
+    else if (below(2))
         damage_levels(bytes, book);
-    if (below(4) == 0)
+    if (signs || below(4) == 0)
         damage_comparisons(bytes, book);
-    if (below(2))
+    if (!signs && below(2))
         damage_bytes(bytes, book);
     return below(8) ? book->length : below((uint32_t)book->length + 1);
+}
+
+/* How many faults the host finds before the place of a refusal, in the order of the checks; in an accepted book, at
+   all. Of refusals 1 to 3, after which records cannot be read, nothing is asked. */
+static unsigned found_before(const struct report *report, uint32_t packed)
+{
+    static const char *const tables[] = {"12456", "23456", "5", "2", "1", "3", "3", "3"}; /* of refusals 4 to 11 */
+    unsigned found = 0;
+    for (unsigned number = 4; number <= 11; number++)
+        for (const char *table = tables[number - 4]; *table != '\0'; table++)
+            for (uint32_t record = 0; ; record++) {
+                uint32_t place = number * 10000000 + (uint32_t)(*table - '0') * 1000000 + record;
+                if (packed != 0 && place >= packed)
+                    return found;
+                if (record == count_of(report->book, *table - '0'))
+                    break;
+                found += number < 8 ? explain_record(report, number, *table - '0', record) != 0
+                                    : explain_level(report, number, record) != 0;
+            }
+    return found;
 }
 
 int main(int count, char **words)
@@ -78,8 +113,8 @@ int main(int count, char **words)
         uint32_t packed = doughpillar_answer(exact, length, room, sizeof room);
         unsigned number = DOUGHPILLAR_NUMBER(packed);
         met[number < 12 ? number : 12]++;
-        if (packed != 0 && !explain(&report, packed)) {
-            printf("refusal %lu is not explained\n", (unsigned long)packed);
+        if ((packed != 0 && !explain(&report, packed)) || found_before(&report, packed) != 0) {
+            printf("returned %lu, and the host finds otherwise\n", (unsigned long)packed);
             faults++;
         }
         free(exact);
