@@ -13,6 +13,8 @@ test:
 	@tests/host/run
 	@$(MAKE) --no-print-directory --jobs=2 --output-sync listing compare
 	@tests/listing/run
+	@tests/install/run
+	@tests/pages/run
 	@rt ci
 
 # make library: proves the engine and archives it, if a crate has changed.
@@ -29,15 +31,22 @@ target/bin/listing: crates.txt $(shell find crates)
 	@mkdir -p target
 	@rt check listing > target/listing.log 2>&1 || { cat target/listing.log; exit 1; }
 
-# make run: answers the sample book with the listing program, the atoms' names beside the answers.
-run: listing
-	@target/bin/listing < samples/night.book | awk 'NR == FNR { name[NR - 1] = $$0; next } \
-		FNR > 1 { $$0 = sprintf("%-14s ", $$0) name[$$1] } { print }' samples/night.names -
+# make run BOOK=FILE NAMES=FILE: answers a book with the example host; NAMES, a name for each atom, may be left out.
+# Without BOOK it is the sample book. A refusal is an answer too, and no error of make's.
+ifndef BOOK
+BOOK := samples/night.book
+NAMES := samples/night.names
+endif
 
-# make host: the example host in C, target/host/logger.
-host: library
+run: host
+	@target/host/logger '$(BOOK)' $(if $(NAMES),'$(NAMES)') || [ $$? -eq 1 ]
+
+# make host: the example host in C.
+host: target/host/logger
+
+target/host/logger: $(LIBRARY) include/doughpillar.h $(wildcard host/*.c host/*.h)
 	@mkdir -p target/host
-	@cc -std=c99 -Wall -Wextra -Werror -O2 -Iinclude host/logger.c $(LIBRARY) -o target/host/logger
+	@$(CC) -std=c99 -Wall -Wextra -O2 -Iinclude $(wildcard host/*.c) $(LIBRARY) -o $@
 
 # make compare: the engine and the second program on the fixtures, at the limits, on short hostile books and on 200,000
 # seeded ones.
@@ -56,3 +65,6 @@ bench: library
 count: library
 	@$(BUILD_SECOND)
 	@second/count $(COUNT)
+
+# make shared, install, uninstall
+include host/install.mk

@@ -1,98 +1,116 @@
-/* A host as a logger would have it: one book in, a line for each atom out; a refusal in words, with its place.
-   usage: logger BOOK [NAMES]      BOOK may be -, standard input; NAMES has a name for each atom, one to a line
-   Exit status: 0 answered, 1 refused, 2 something that cannot be read or written, or not one name for each atom. */
-#include "doughpillar.h"
+/* A host as a logger would have it: one book in, a line for each atom out; a refusal in words, with its place. */
+#include "explain.h"
 
 #include <errno.h>
-#include <stdio.h>
 #include <string.h>
 
-/* One byte more than the largest book: a longer one is refused for its start. */
-static uint8_t book[DOUGHPILLAR_LARGEST_BOOK + 1];
-static uint8_t room[DOUGHPILLAR_MOST_ATOMS];
+static const char help[] =
+    "usage: %s BOOK [NAMES]\n"
+    "Prints true, false or undefined for each atom of a rule book, or why the book is refused.\n"
+    "  BOOK       the file of the book; - is standard input\n"
+    "  NAMES      a name for each atom, one to a line, in the order of the atoms\n"
+    "  --help     prints this\n"
+    "  --version  prints the version\n"
+    "Exit status: 0 answered; 1 refused; 2 the arguments, a file that cannot be read or written, or not one name for\n"
+    "each atom.\n";
 
 static const char *const answers[] = {"undefined", "true", "false"};
 
-/* Where the table of contents has the number of atoms. It is there in every accepted book. */
-static size_t atoms_of(const uint8_t *bytes)
-{
-    return bytes[12] | (size_t)bytes[13] << 8;
-}
+/* One byte more than the largest book: a longer one is refused for its start. */
+static uint8_t bytes[DOUGHPILLAR_LARGEST_BOOK + 1];
+static uint8_t room[DOUGHPILLAR_MOST_ATOMS];
+static struct names names;
 
-static int failed(const char *what)
+static const char *program; /* its own name */
+
+static int complain(const char *what, const char *why)
 {
-    fprintf(stderr, "logger: %s: %s\n", what, strerror(errno));
+    fprintf(stderr, "%s: %s: %s\n", program, what, why);
     return 2;
 }
 
-/* A place of 0, 0 needs no words; refusals 2 and 3 are of a table, the later ones of a record. */
-static void print_refusal(uint32_t packed)
+/* The book from a file; 0 if it cannot be read. */
+static int read_book(struct book *book, const char *path)
 {
-    unsigned number = DOUGHPILLAR_NUMBER(packed), record = DOUGHPILLAR_RECORD(packed);
-    const char *sort = doughpillar_record_sort(packed), *words = doughpillar_refusal(packed);
-    if (DOUGHPILLAR_TABLE(packed) == 0)
-        printf("refused %u: %s\n", number, words);
-    else if (number < 4)
-        printf("refused %u at the %s table: %s\n", number, sort, words);
-    else
-        printf("refused %u at %s %u: %s\n", number, sort, record, words);
-}
-
-/* The next line of the names, however long, in the third column; 0 if there is none. */
-static int print_name(FILE *names, int column)
-{
-    int letter = getc(names);
-    if (letter == EOF)
+    FILE *file = strcmp(path, "-") == 0 ? stdin : fopen(path, "rb");
+    if (file == NULL)
         return 0;
-    printf("%*s", 17 - column, "");
-    for (; letter != EOF && letter != '\n'; letter = getc(names))
-        putchar(letter);
-    return 1;
+    book->bytes = bytes;
+    book->length = fread(bytes, 1, sizeof bytes, file);
+    int read = !ferror(file);
+    int why = errno;
+    fclose(file);
+    errno = why;
+    return read;
 }
 
-/* A line for each atom; 0 if there are names, and not one for each atom. */
-static int print_answers(size_t atoms, FILE *names)
+/* The names from a file; what is wrong with it, or NULL. */
+static const char *open_names(const char *path)
 {
-    int named = 1;
+    FILE *file = fopen(path, "rb");
+    if (file == NULL)
+        return strerror(errno);
+    int status = read_names(&names, file);
+    const char *wrong = ferror(file) ? strerror(errno) : status != 0 ? "longer than 1 MiB" : NULL;
+    fclose(file);
+    return wrong;
+}
+
+/* A line for each atom, its name in the third column. */
+static void print_answers(size_t atoms)
+{
     for (size_t a = 0; a < atoms; a++) {
-        int column = printf("%4zu  %s", a, answers[room[a]]);
-        if (names != NULL && !print_name(names, column))
-            named = 0;
-        putchar('\n');
+        const char *answer = answers[room[a]];
+        if (has_name(&names, a)) {
+            printf("%4zu  %-9s  ", a, answer);
+            print_name(stdout, &names, a);
+            putchar('\n');
+        } else
+            printf("%4zu  %s\n", a, answer);
     }
-    return named && (names == NULL || getc(names) == EOF);
+}
+
+/* What is left to say at the end: a text that could not be written, or the status. */
+static int finish(int status)
+{
+    return fflush(stdout) != 0 || ferror(stdout) ? complain("standard output", strerror(errno)) : status;
+}
+
+static int answer(const struct book *book, const char *path)
+{
+    struct report report = {stdout, book, &names};
+    uint32_t packed = doughpillar_answer(book->bytes, book->length, room, sizeof room);
+    if (packed != 0) {
+        explain(&report, packed);
+        return finish(1);
+    }
+    size_t atoms = doughpillar_atoms(book->bytes, book->length);
+    print_answers(atoms);
+    if (path == NULL || names.lines == atoms)
+        return finish(0);
+    fprintf(stderr, "%s: %s: %zu names for %zu atoms\n", program, path, names.lines, atoms);
+    return finish(2);
 }
 
 int main(int count, char **words)
 {
-    if (count < 2 || count > 3) {
-        fprintf(stderr, "usage: logger BOOK [NAMES]\n");
+    const char *slash = count > 0 ? strrchr(words[0], '/') : NULL;
+    program = slash != NULL ? slash + 1 : count > 0 ? words[0] : "logger";
+    if (count == 2 && strcmp(words[1], "--help") == 0) {
+        printf(help, program);
+        return finish(0);
+    }
+    if (count == 2 && strcmp(words[1], "--version") == 0) {
+        printf("%s %s\n", program, DOUGHPILLAR_VERSION);
+        return finish(0);
+    }
+    if (count < 2 || count > 3 || strncmp(words[1], "--", 2) == 0) {
+        fprintf(stderr, help, program);
         return 2;
     }
-    FILE *file = strcmp(words[1], "-") == 0 ? stdin : fopen(words[1], "rb");
-    if (file == NULL)
-        return failed(words[1]);
-    size_t length = fread(book, 1, sizeof book, file);
-    if (ferror(file))
-        return failed(words[1]);
-    fclose(file);
-    FILE *names = NULL;
-    if (count == 3 && (names = fopen(words[2], "r")) == NULL)
-        return failed(words[2]);
-
-    uint32_t packed = doughpillar_answer(book, length, room, sizeof room);
-    int named = 1;
-    if (packed != 0)
-        print_refusal(packed);
-    else
-        named = print_answers(atoms_of(book), names);
-    if (fflush(stdout) != 0 || ferror(stdout))
-        return failed("standard output");
-    if (names != NULL && ferror(names))
-        return failed(words[2]);
-    if (!named) {
-        fprintf(stderr, "logger: %s: not one name for each atom\n", words[2]);
-        return 2;
-    }
-    return packed != 0;
+    struct book book;
+    if (!read_book(&book, words[1]))
+        return complain(words[1], strerror(errno));
+    const char *path = count == 3 ? words[2] : NULL, *wrong = path != NULL ? open_names(path) : NULL;
+    return wrong != NULL ? complain(path, wrong) : answer(&book, path);
 }

@@ -1,4 +1,5 @@
-/* A C caller in small: one book answered, and refused for its length and for its room; no byte around the room changes.
+/* A C caller in small: one book answered, and refused for its length and for its room; no byte around the room changes;
+   null pointers of length 0.
    Book and room have memory of just their length, so that valgrind sees any byte that is read or written outside. */
 #include "doughpillar.h"
 
@@ -69,6 +70,26 @@ static void expect_atoms(const char *what, size_t length, uint32_t atoms)
     free(bytes);
 }
 
+static void expect_number(const char *what, uint32_t returned, uint32_t number)
+{
+    if (returned != number)
+        printf("%s: returned %u\n", what, (unsigned)returned);
+    faults += returned != number;
+}
+
+/* A null pointer of length 0 is a book, and a room. */
+static void expect_null(void)
+{
+    uint8_t empty[48] = {0}, room[4];
+    for (size_t table = 0; table < 6; table++)
+        empty[8 * table] = 48;
+    expect_number("null book", doughpillar_answer(NULL, 0, room, sizeof room), 10000000);
+    expect_number("null book and room", doughpillar_answer(NULL, 0, NULL, 0), 10000000);
+    expect_number("null room", doughpillar_answer(book, sizeof book, NULL, 0), 120000000);
+    expect_number("null room, no atoms", doughpillar_answer(empty, sizeof empty, NULL, 0), 0);
+    expect_number("atoms of a null book", doughpillar_atoms(NULL, 0), 0);
+}
+
 int main(void)
 {
     expect("answered", sizeof book, 6, 0);
@@ -85,6 +106,7 @@ int main(void)
     expect_atoms("the table of contents alone", 48, 4);
     expect_atoms("47 bytes", 47, 0);
     expect_atoms("no book", 0, 0);
+    expect_null();
     printf("C caller: %d faults\n", faults);
     return faults != 0;
 }
