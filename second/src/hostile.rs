@@ -16,7 +16,7 @@ pub struct Hostile {
 const REMEMBERED: usize = 2048;
 
 /// What fills that: 32 rounds in each of which 64 rules strike anew.
-const FILLER: Sizes = Sizes { falling: 32, resting: 64, links: 0, sharing: 0, range: 0, open: 0 };
+pub const FILLER: Sizes = Sizes { falling: 32, resting: 64, links: 0, sharing: 0, range: 0, open: 0 };
 
 /// The books with so many of a hundred of their links, and of what shares a range or falls; a filler stays as it is.
 pub fn all(percent: usize) -> Vec<Hostile> {

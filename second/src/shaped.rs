@@ -3,6 +3,7 @@
 
 use crate::codes::{CLOSED, COMPLETE, OPEN};
 use crate::generate::give;
+use crate::hostile::FILLER;
 use crate::random::Random;
 use crate::shapes::{Shape, Sizes, SHAPES};
 use crate::tables::Tables;
@@ -10,7 +11,19 @@ use crate::tables::Tables;
 /// A shape, and an accepted book of it.
 pub fn drawn(random: &mut Random) -> (Shape, Tables) {
     let shape = random.pick(&SHAPES);
-    let mut tables = shape.tables(&sizes(random));
+    let sizes = sizes(random);
+    (shape, tables(shape, &sizes, random))
+}
+
+/// An accepted book whose filler, if its shape has one, is that of the hostile books.
+pub fn filled(random: &mut Random) -> Tables {
+    let shape = random.pick(&SHAPES);
+    let sizes = Sizes { falling: FILLER.falling, resting: FILLER.resting, ..sizes(random) };
+    tables(shape, &sizes, random)
+}
+
+fn tables(shape: Shape, sizes: &Sizes, random: &mut Random) -> Tables {
+    let mut tables = shape.tables(sizes);
     draw_starts(&mut tables, random);
     draw_loops(&mut tables, random);
     draw_bounds(&mut tables, random);
@@ -18,7 +31,7 @@ pub fn drawn(random: &mut Random) -> (Shape, Tables) {
     draw_kinds(&mut tables, random);
     draw_order(&mut tables, random);
     give(&mut tables, random);
-    (shape, tables)
+    tables
 }
 
 fn sizes(random: &mut Random) -> Sizes {
