@@ -49,14 +49,14 @@ pub fn all(percent: usize) -> Vec<Hostile> {
     );
     add(
         "shared range that a chain's end ends",
-        "a filler; above it a chain of 1,270 and 640 atoms by one range of 1,999 undefined atoms and the last link",
+        "a filler; above it a chain of 1,270 and 640 atoms by one range of 1,999 undefined ones and the last link",
         false,
         Shape::SharedRange,
         Sizes { links: part(1270), sharing: part(640), range: part(2000), open: 41, ..FILLER },
     );
     add(
         "shared range that a false sum ends",
-        "a filler; above it a chain of 1,150 and 765 atoms by one range of 2,799 undefined atoms and a sum over all atoms",
+        "a filler; above it a chain of 1,150 and 765 atoms by one range of 2,799 undefined ones and a sum over all atoms",
         false,
         Shape::FalseSum,
         Sizes { links: part(1150), sharing: part(765), range: part(2800), open: 36, ..FILLER },

@@ -1,5 +1,5 @@
-// Compares the engine with the second program, byte by byte: fixtures, limits, short hostile books, seeded books, gifts,
-// damaged bytes; and the sample book with its fixture.
+// Compares the engine with the second program, byte by byte: fixtures, limits, short hostile books, seeded books,
+// gifts, damaged bytes; and the sample book with its fixture.
 // compare [--from S] [--books N]: the seeds from S on, 0 and 200,000 unless said; compare --seed S: one, in full.
 
 use std::process::ExitCode;
