@@ -1,6 +1,7 @@
 // The hostile books: those known to take the engine long, at the limits of document 01 or near them.
 
-use crate::shapes::{Shape, Sizes};
+use crate::making::Sizes;
+use crate::shapes::Shape;
 use crate::tables::Tables;
 
 pub struct Hostile {
@@ -56,7 +57,7 @@ pub fn all(percent: usize) -> Vec<Hostile> {
     );
     add(
         "shared range that a false sum ends",
-        "a filler; above it a chain of 1,150 and 765 atoms by one range of 2,799 undefined ones and a sum over all atoms",
+        "a filler; above it a chain of 1,150 and 765 atoms by one range of 2,799 undefined ones and a sum over all",
         false,
         Shape::FalseSum,
         Sizes { links: part(1150), sharing: part(765), range: part(2800), open: 36, ..FILLER },

@@ -4,8 +4,9 @@
 use crate::codes::{CLOSED, COMPLETE, OPEN};
 use crate::generate::give;
 use crate::hostile::FILLER;
+use crate::making::Sizes;
 use crate::random::Random;
-use crate::shapes::{Shape, Sizes, SHAPES};
+use crate::shapes::{Shape, SHAPES};
 use crate::tables::Tables;
 
 /// A shape, and an accepted book of it.
