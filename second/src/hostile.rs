@@ -1,6 +1,7 @@
 // The hostile books: those known to take the engine long, at the limits of document 01 or near them.
 
-use crate::shapes::{Shape, Sizes};
+use crate::making::Sizes;
+use crate::shapes::Shape;
 use crate::tables::Tables;
 
 pub struct Hostile {
@@ -16,7 +17,7 @@ pub struct Hostile {
 const REMEMBERED: usize = 2048;
 
 /// What fills that: 32 rounds in each of which 64 rules strike anew.
-const FILLER: Sizes = Sizes { falling: 32, resting: 64, links: 0, sharing: 0, range: 0, open: 0 };
+pub const FILLER: Sizes = Sizes { falling: 32, resting: 64, links: 0, sharing: 0, range: 0, open: 0 };
 
 /// The books with so many of a hundred of their links, and of what shares a range or falls; a filler stays as it is.
 pub fn all(percent: usize) -> Vec<Hostile> {
@@ -49,14 +50,14 @@ pub fn all(percent: usize) -> Vec<Hostile> {
     );
     add(
         "shared range that a chain's end ends",
-        "a filler; above it a chain of 1,270 and 640 atoms by one range of 1,999 undefined atoms and the last link",
+        "a filler; above it a chain of 1,270 and 640 atoms by one range of 1,999 undefined ones and the last link",
         false,
         Shape::SharedRange,
         Sizes { links: part(1270), sharing: part(640), range: part(2000), open: 41, ..FILLER },
     );
     add(
         "shared range that a false sum ends",
-        "a filler; above it a chain of 1,150 and 765 atoms by one range of 2,799 undefined atoms and a sum over all atoms",
+        "a filler; above it a chain of 1,150 and 765 atoms by one range of 2,799 undefined ones and a sum over all",
         false,
         Shape::FalseSum,
         Sizes { links: part(1150), sharing: part(765), range: part(2800), open: 36, ..FILLER },

@@ -12,6 +12,7 @@ pub mod generate;
 pub mod gifts;
 pub mod hostile;
 pub mod limits;
+pub mod making;
 pub mod measure;
 pub mod model;
 pub mod parts;

@@ -2,8 +2,10 @@
 // outcome.
 
 use crate::fixtures::{self, Expected, Fixture, Room};
+use crate::random::Random;
 use crate::refuse::Refusal;
-use crate::{engine, hostile, limits, rooms, witness, Program};
+use crate::tables::Tables;
+use crate::{engine, hostile, limits, rooms, shaped, witness, Program};
 
 /// Compares the books at the limits in rooms of three sorts; says how many there are.
 pub fn compare_limits() -> Result<usize, String> {
@@ -15,17 +17,20 @@ pub fn compare_limits() -> Result<usize, String> {
     Ok(limits.len())
 }
 
-/// Compares the hostile books with so many of a hundred of their links; says how many there are.
-pub fn compare_hostile(percent: usize) -> Result<usize, String> {
-    let books = hostile::all(percent);
-    for hostile in &books {
-        witness::remember(format!("hostile, {percent} of a hundred: {}", hostile.name));
-        let book = hostile.tables.bytes();
-        let outcomes = rooms::compare_all(&book, 0)?;
-        rooms::compare_rounds(&book, &outcomes.exact, 0)?;
-        if outcomes.exact.number != 0 {
-            return Err(format!("refused with {}", outcomes.exact.number));
+/// Compares the hostile books at a twentieth of their length, and books of their shapes with a filler as long as
+/// theirs, by the plain rounds too; says how many there are.
+pub fn compare_hostile() -> Result<usize, String> {
+    let short = hostile::all(5).into_iter().map(|hostile| (hostile.name.to_string(), hostile.tables));
+    let filled = (0..200).map(|seed| (format!("filled {seed}"), shaped::filled(&mut Random::new(seed))));
+    let books: Vec<(String, Tables)> = short.chain(filled).collect();
+    for (name, tables) in &books {
+        witness::remember(format!("hostile: {name}"));
+        let book = tables.bytes();
+        let outcome = rooms::compare_all(&book, 0)?.exact;
+        if outcome.number != 0 {
+            return Err(format!("refused with {}", outcome.number));
         }
+        rooms::compare_rounds(&book, &outcome, 0)?;
     }
     Ok(books.len())
 }

@@ -1,22 +1,38 @@
-// Seeded books of the hostile shapes, small: their sizes, starts, bounds, kinds, levels and order of rules are drawn.
+// Seeded books of the hostile shapes, small: their sizes, starts, loops, bounds, kinds, levels and order of rules are
+// drawn.
 
 use crate::codes::{CLOSED, COMPLETE, OPEN};
 use crate::generate::give;
+use crate::hostile::FILLER;
+use crate::making::Sizes;
 use crate::random::Random;
-use crate::shapes::{Shape, Sizes, SHAPES};
+use crate::shapes::{Shape, SHAPES};
 use crate::tables::Tables;
 
 /// A shape, and an accepted book of it.
 pub fn drawn(random: &mut Random) -> (Shape, Tables) {
     let shape = random.pick(&SHAPES);
-    let mut tables = shape.tables(&sizes(random));
+    let sizes = sizes(random);
+    (shape, tables(shape, &sizes, random))
+}
+
+/// An accepted book whose filler, if its shape has one, is that of the hostile books.
+pub fn filled(random: &mut Random) -> Tables {
+    let shape = random.pick(&SHAPES);
+    let sizes = Sizes { falling: FILLER.falling, resting: FILLER.resting, ..sizes(random) };
+    tables(shape, &sizes, random)
+}
+
+fn tables(shape: Shape, sizes: &Sizes, random: &mut Random) -> Tables {
+    let mut tables = shape.tables(sizes);
     draw_starts(&mut tables, random);
+    draw_loops(&mut tables, random);
     draw_bounds(&mut tables, random);
     draw_levels(&mut tables, random);
     draw_kinds(&mut tables, random);
     draw_order(&mut tables, random);
     give(&mut tables, random);
-    (shape, tables)
+    tables
 }
 
 fn sizes(random: &mut Random) -> Sizes {
@@ -32,13 +48,39 @@ fn sizes(random: &mut Random) -> Sizes {
     }
 }
 
-/// A fact stays one, or its head rests on itself: plainly, or under "not" and so without end.
+/// A fact stays one, or is left out; or its head rests on "not" itself, or on an end and so on itself.
 fn draw_starts(tables: &mut Tables, random: &mut Random) {
-    for rule in tables.rules.iter_mut().filter(|rule| rule.2 == 0) {
-        if random.percent(40) {
-            (rule.1, rule.2) = (tables.hypotheses.len() as u16, 1);
-            tables.hypotheses.push((u8::from(random.percent(80)), rule.0));
+    for rule in 0..tables.rules.len() {
+        let (head, _, many) = tables.rules[rule];
+        let end = random.pick(&ends(tables, head));
+        let hypothesis = random.pick(&[None, None, Some((1, head)), Some((0, head)), Some((0, end)), Some((0, end))]);
+        if let (0, Some(hypothesis)) = (many, hypothesis) {
+            tables.rules[rule] = (head, tables.hypotheses.len() as u16, 1);
+            tables.hypotheses.push(hypothesis);
         }
+    }
+}
+
+/// In half of the books a rule more or two, over an end.
+fn draw_loops(tables: &mut Tables, random: &mut Random) {
+    for _ in 0..random.pick(&[0, 0, 1, 2]) {
+        let head = random.pick(&tables.rules).0;
+        let end = random.pick(&ends(tables, head));
+        tables.rules.push((head, tables.hypotheses.len() as u16, 1));
+        tables.hypotheses.push((0, end));
+    }
+}
+
+/// The atoms of the head's level that stand in no hypothesis, or the head itself if there are none.
+fn ends(tables: &Tables, head: u16) -> Vec<u16> {
+    let level = |atom: u16| tables.level(usize::from(atom));
+    let stands = |atom: u16| tables.hypotheses.iter().any(|&(sort, index)| sort < 2 && index == atom);
+    let is_end = |&atom: &u16| level(atom) == level(head) && !stands(atom);
+    let ends: Vec<u16> = (0..tables.atoms.len() as u16).filter(is_end).collect();
+    if ends.is_empty() {
+        vec![head]
+    } else {
+        ends
     }
 }
 

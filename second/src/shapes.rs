@@ -1,8 +1,9 @@
 // The shapes of hostile books: rounds that decide one atom each, and in each of them passes of step (c) that strike out
 // one atom each, by rules that the engine has not remembered.
 
-use crate::builder::{Builder, Hyp};
-use crate::codes::{CLOSED, COMPLETE, GE, OPEN, SUM};
+use crate::builder::Hyp;
+use crate::codes::{CLOSED, GE, SUM};
+use crate::making::{Making, Sizes};
 use crate::tables::Tables;
 
 #[derive(Clone, Copy, Debug, PartialEq, Eq)]
@@ -28,25 +29,9 @@ pub const SHAPES: [Shape; 8] = [
     Shape::TwoDirections,
 ];
 
-/// How many there are of each; a shape that has no such thing passes over its number.
-#[derive(Clone, Copy)]
-pub struct Sizes {
-    /// Atoms that fall, which is to become false, one in each round.
-    pub falling: usize,
-    /// Atoms that rest on an atom which rests on those that fall.
-    pub resting: usize,
-    /// Atoms of the chain.
-    pub links: usize,
-    /// Atoms with a rule over the shared range, and the hypotheses of that range.
-    pub sharing: usize,
-    pub range: usize,
-    /// Open atoms, not given, that the shared range goes through.
-    pub open: usize,
-}
-
 impl Shape {
     pub fn tables(self, sizes: &Sizes) -> Tables {
-        let mut making = Making { builder: Builder::new(), sizes: *sizes };
+        let mut making = Making::new(sizes);
         match self {
             Shape::Chain => drop(making.chain_above_filler(1)),
             Shape::OwnLevel => making.own_level(),
@@ -61,59 +46,7 @@ impl Shape {
     }
 }
 
-/// A book under work.
-struct Making {
-    builder: Builder,
-    sizes: Sizes,
-}
-
 impl Making {
-    fn atoms(&mut self, kind: u8, level: u8, many: usize) -> Vec<u16> {
-        let predicate = self.builder.predicate(kind, level);
-        (0..many).map(|_| self.builder.atom(predicate)).collect()
-    }
-
-    /// The first has no rule and each next one has the one before: complete, so that they fall one by one.
-    fn falling(&mut self) -> Vec<u16> {
-        let falling = self.atoms(COMPLETE, 0, self.sizes.falling);
-        for pair in falling.windows(2) {
-            self.builder.rule(pair[1], &[Hyp::Atom(pair[0])]);
-        }
-        falling
-    }
-
-    /// A rule for the root over each of the atoms: what supports it changes whenever one falls.
-    fn changing(&mut self, root: u16, atoms: &[u16]) {
-        for &atom in atoms {
-            self.builder.rule(root, &[Hyp::Atom(atom)]);
-        }
-    }
-
-    /// Each atom by a rule over the root alone, all these rules over one hypothesis.
-    fn rest_on(&mut self, root: u16, atoms: &[u16]) {
-        let first = self.builder.tables.hypotheses.len() as u16;
-        self.builder.tables.hypotheses.push((0, root));
-        self.builder.tables.rules.extend(atoms.iter().map(|&atom| (atom, first, 1)));
-    }
-
-    /// On level 0: an atom whose support changes in each round, and atoms on it that strike anew in each round.
-    fn filler(&mut self) {
-        let falling = self.falling();
-        let root = self.atoms(CLOSED, 0, 1)[0];
-        self.changing(root, &falling);
-        for atom in self.atoms(CLOSED, 0, self.sizes.resting) {
-            self.builder.rule(atom, &[Hyp::Atom(root)]);
-        }
-    }
-
-    /// Each atom needs as many before it as said; the last one's rule comes first.
-    fn link(&mut self, chain: &[u16], needs: usize) {
-        for end in (1..chain.len()).rev() {
-            let body: Vec<Hyp> = chain[end.saturating_sub(needs)..end].iter().map(|&atom| Hyp::Atom(atom)).collect();
-            self.builder.rule(chain[end], &body);
-        }
-    }
-
     fn chain_above_filler(&mut self, needs: usize) -> Vec<u16> {
         self.filler();
         let chain = self.atoms(CLOSED, 1, self.sizes.links);
@@ -159,14 +92,6 @@ impl Making {
         let elements: Vec<(u8, u16, i32)> =
             every_atom.map(|atom| (0, atom, i32::from(chain.contains(&atom)))).collect();
         self.builder.comparison(SUM, GE, chain.len() as i32, &elements);
-    }
-
-    fn share(&mut self, sharing: &[u16], last: (u8, u16)) {
-        let open = self.atoms(OPEN, 0, self.sizes.open);
-        let (first, range) = (self.builder.tables.hypotheses.len() as u16, self.sizes.range);
-        self.builder.tables.hypotheses.extend((1..range).map(|place| (0, open[place % open.len()])));
-        self.builder.tables.hypotheses.push(last);
-        self.builder.tables.rules.extend(sharing.iter().map(|&atom| (atom, first, range as u16)));
     }
 
     /// A chain in which each atom needs all the atoms before it, by a range that grows.

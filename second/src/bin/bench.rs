@@ -1,6 +1,6 @@
 // The benchmark: the engine, its rounds written plainly and the second program side by side, two tables, one run.
-// bench: both tables; bench books, bench hostile: one; bench hostile NUMBER [PERCENT]: one hostile book, or so many of a
-// hundred of its links.
+// bench: both tables; bench books, bench hostile: one; bench hostile NUMBER: one hostile book; bench hostile NUMBER
+// PERCENT: so many of a hundred of its links.
 
 use std::ops::RangeInclusive;
 use std::process::ExitCode;
@@ -14,7 +14,18 @@ const ALL: RangeInclusive<usize> = 1..=usize::MAX;
 
 fn main() -> ExitCode {
     let words: Vec<String> = std::env::args().skip(1).collect();
-    match words.iter().map(String::as_str).collect::<Vec<_>>()[..] {
+    match print(&words.iter().map(String::as_str).collect::<Vec<_>>()) {
+        Some(()) => ExitCode::SUCCESS,
+        None => {
+            println!("bench | bench books | bench hostile | bench hostile NUMBER [PERCENT]");
+            ExitCode::from(2)
+        }
+    }
+}
+
+/// Prints what is asked for, if it can be understood.
+fn print(words: &[&str]) -> Option<()> {
+    match *words {
         [] => {
             print_books();
             println!();
@@ -22,14 +33,16 @@ fn main() -> ExitCode {
         }
         ["books"] => print_books(),
         ["hostile"] => print_hostile(ALL, 100),
-        ["hostile", number] => print_hostile(one(number), 100),
-        ["hostile", number, percent] => print_hostile(one(number), parsed(percent)),
-        _ => {
-            println!("bench | bench books | bench hostile | bench hostile NUMBER [PERCENT]");
-            return ExitCode::from(2);
-        }
+        ["hostile", number] => print_hostile(one(number)?, 100),
+        ["hostile", number, percent] => print_hostile(one(number)?, percent.parse().ok()?),
+        _ => return None,
     }
-    ExitCode::SUCCESS
+    Some(())
+}
+
+fn one(number: &str) -> Option<RangeInclusive<usize>> {
+    let number = number.parse().ok()?;
+    Some(number..=number)
 }
 
 fn print_books() {
@@ -106,14 +119,6 @@ fn hostile_row(hostile: &Hostile) -> String {
         second.in_ms(),
         ours.counts(),
     )
-}
-
-fn one(number: &str) -> RangeInclusive<usize> {
-    parsed(number)..=parsed(number)
-}
-
-fn parsed(number: &str) -> usize {
-    number.parse().expect("a number")
 }
 
 fn in_kb(bytes: usize) -> String {

@@ -1,5 +1,5 @@
-// Compares the engine with the second program, byte by byte: fixtures, limits, hostile books at a twentieth of their
-// length, seeded books, gifts, damaged bytes; and the sample book with its fixture.
+// Compares the engine with the second program, byte by byte: fixtures, limits, short hostile books, seeded books,
+// gifts, damaged bytes; and the sample book with its fixture.
 // compare [--from S] [--books N]: the seeds from S on, 0 and 200,000 unless said; compare --seed S: one, in full.
 
 use std::process::ExitCode;
@@ -74,8 +74,8 @@ fn every_part(options: &Options) -> Result<u64, String> {
     println!("the sample book and its names as its fixture says");
     let limits = parts::compare_limits()?;
     println!("{limits} books at the limits");
-    let hostile = parts::compare_hostile(5)?;
-    println!("{hostile} hostile books at a twentieth of their length");
+    let hostile = parts::compare_hostile()?;
+    println!("{hostile} short hostile books");
     let mut tally = Tally::default();
     for seed in options.from..options.from + options.books {
         remember(seed);
