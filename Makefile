@@ -5,8 +5,9 @@ BUILD_SECOND := cargo build --quiet --release --offline --locked $(SECOND) --tar
 
 .PHONY: test library listing run host compare bench count
 
-# make test: the layout, the library as C has it, the listing program, the comparison with the second program, and last
-# every crate proved from nothing and every must-fail edit refused. The last line is rt ci's own.
+# make test: the layout, the library as C has it, the comparison with the second program, the listing program, what is
+# installed, what the pages show, and last every crate proved from nothing and every must-fail edit refused. The last
+# line is rt ci's own.
 test:
 	@rt fmt --check
 	@$(MAKE) --no-print-directory library

@@ -33,7 +33,7 @@ struct use {
     int compared, negated;
 };
 
-/* Positive use: docs/FORMAT.md, "What a certain predicate may use". */
+/* Positive use: docs/FORMAT.md, "Levels". */
 static int is_positive(const struct book *book, const struct use *use)
 {
     enum { COUNT, SUM, MIN, MAX };
@@ -76,7 +76,7 @@ static void say_use(const struct report *report, const struct use *use)
         say_comparison(report, field_of(book, INDEX, use->hypothesis));
         fprintf(out, ", element %u, ", (unsigned)use->element);
     }
-    fprintf(out, use->negated ? "not " : "");
+    fputs(use->negated ? "not " : "", out);
     say_atom(report, use->atom);
     fprintf(out, ", of ");
     say_predicate(report, predicate_of(book, use->atom));
