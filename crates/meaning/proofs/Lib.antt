@@ -9,8 +9,6 @@ pub mod Sums
 pub mod Extremes
 -- when an aggregate's relation holds, and what keeps it so
 pub mod Local
--- count as a sum, min as a max
-pub mod Aggregates
 -- what a hypothesis reads, and what keeps it true
 pub mod Hypotheses
 -- when a rule body is true or false

@@ -49,7 +49,7 @@ gift-true = record {
   atom = ltb-true 0 (countOf whole 1) refl;
   place = refl;
   before = refl;
-  after = leb-true 1 2 refl;
+  after = leb-true 1 _ refl;
   opened = refl;
   unconcluded = λ r i e.
       test-clash (eq-eqb (r .head) 0 e) (any-none (λ r. eqb (r .head) 0) (reading (tables whole) .rules) refl r i);
@@ -61,7 +61,7 @@ gift-false = record {
   atom = ltb-true 1 (countOf whole 1) refl;
   place = refl;
   before = refl;
-  after = leb-true 2 2 refl;
+  after = leb-true 2 _ refl;
   opened = refl;
   unconcluded = λ r i e.
       test-clash (eq-eqb (r .head) 1 e) (any-none (λ r. eqb (r .head) 1) (reading (tables whole) .rules) refl r i);
@@ -92,14 +92,14 @@ more = record { first = refl; gives = gives; long = refl }
 pub more-kept : Keeps unknown known
 more-kept = kept unknown known unknown-answered known-answered more
 
--- the same book with the same answers, but for r: a byte that says false is taken back
+-- the same book with the same answers, but for q: a byte that says true is taken back
 abbrev pub forgotten : Call
-forgotten = accepted (givenBoth 2) (true ∷ undefined ∷ true ∷ true ∷ [])
+forgotten = accepted (givenBoth 2) (undefined ∷ false ∷ true ∷ true ∷ [])
 
 pub byte-taken-back : Keeps known forgotten → ⊥
 unfolding everything
 byte-taken-back K =
-    let e : _≡_ {A = ℕ} 0 2 = K .stays 1 (ltb-true 1 (countOf (givenBoth 2) 1) refl) (λ z. omega (arith, z)) in
+    let e : _≡_ {A = ℕ} 0 1 = K .stays 0 (ltb-true 0 (countOf (givenBoth 2) 1) refl) (λ z. omega (arith, z)) in
     omega (arith, e)
 
 -- r given true instead, and the bytes as they were: the founded answer is taken back
