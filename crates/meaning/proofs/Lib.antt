@@ -45,7 +45,7 @@ pub mod Rooms
 pub mod Demands
 -- the examples, computed
 pub mod Examples
--- demand 3 is not empty
+-- what is asked can be met
 pub mod Premises
 -- why an emptied set is no positive use
 pub mod Emptying

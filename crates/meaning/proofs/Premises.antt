@@ -1,5 +1,6 @@
--- Demand 3 is not empty. What it asks of two calls can be met: in one book two open atoms are not given, in the other
--- one is given true and one false. And it shuts calls out: those that take back an answer. Assumes nothing.
+-- Nothing is promised of nothing. What demand 3 asks of two calls can be met: in one book two open atoms are not given,
+-- in the other one is given true and one false; and it shuts out calls that take back an answer. What the theorems
+-- below the demands ask of a book can be met too. Assumes nothing.
 use mathlib.Core.Path.{_≡_, refl, sym, ap, _∙_, subst}
 use mathlib.Core.Logic.{inl, inr, by-cases}
 use mathlib.Core.List.{List, [], _∷_}
@@ -12,14 +13,20 @@ use lib.Seq.{getD-set-other}
 use borrow.Author.Tests.{eq-eqb, leb-true, ltb-true}
 use Rattle.laws.proofs.Tests.{test-clash}
 use Rattle.laws.proofs.Entries.{any-none}
+use Rattle.theory.specs.Steps.{Fresh}
+use Rattle.theory.specs.Levels as Theory
 use Rattle.theory.proofs.Truth.{clash}
-use Rattle.meaning.specs.Format.{countOf, tables}
-use Rattle.meaning.specs.Reading.{reading}
+use Rattle.meaning.specs.Format.{Tables, countOf, tables}
+use Rattle.meaning.specs.Reading.{Kind, givenOf, levelsOf, reading}
+use Rattle.meaning.specs.Model.{answersOf}
 use Rattle.meaning.specs.Outcome.{Answered, Call, modelOf}
-use Rattle.meaning.specs.Demands.{Gift, Gives, Keeps, More}
+use Rattle.meaning.specs.Demands.{Accepted, FoundedIn, Gift, Gives, Keeps, More}
 use Rattle.meaning.specs.Examples.Notation.{accepted, false, setByte, true, undefined}
+use Rattle.meaning.specs.Examples.Marked.{threeOf}
 use Rattle.meaning.specs.Examples.Refused.{whole}
-use Rattle.meaning.proofs.Demands.{founded, kept}
+use Rattle.meaning.proofs.Sound.{Sound}
+use Rattle.meaning.proofs.Unique.{book, fresh, layers, model-there}
+use Rattle.meaning.proofs.Demands.{accepted-sound, founded, kept}
 use Rattle.meaning.proofs.Examples.{everything}
 
 -- m ← max{5: q, 3: r} ≠ 3; n ← count{q, not r} ≥ 1, m. Nothing is known of q and r, and so not of m and n.
@@ -112,3 +119,28 @@ answer-taken-back K =
     let f = founded (givenBoth 2) 5 refl in
     let g = founded (givenBoth 1) 5 refl in
     clash refl (K .keeps (modelOf (givenBoth 2)) (modelOf (givenBoth 1)) f g 1 .1 refl)
+
+-- What the theorems ask: t ← count{t,a,b} ≥ 3, closed, over two facts in a certain level, has all of it.
+abbrev pub layered : List ℕ
+layered = threeOf Kind.closed
+
+abbrev t : Tables
+t = tables layered
+
+pub layered-accepted : Accepted layered 3
+unfolding everything
+layered-accepted = refl
+
+pub layered-sound : Sound (reading t) (levelsOf t) (givenOf t)
+layered-sound = accepted-sound layered 3 layered-accepted
+
+pub layered-founded : FoundedIn layered (modelOf layered)
+layered-founded = founded layered 3 layered-accepted
+
+-- of the theory, crate theory: given answers that are fresh; levels that fit, cover the book and are worked through
+pub layered-fresh : Fresh (book (reading t) .rules) (Theory.whole (book (reading t))) (answersOf (givenOf t))
+layered-fresh = fresh (reading t) (levelsOf t) (givenOf t) layered-sound
+
+pub layered-model : Theory.Model (book (reading t)) (layers (reading t) (levelsOf t) (givenOf t) layered-sound)
+    (answersOf (givenOf t)) (answersOf (modelOf layered))
+layered-model = model-there (reading t) (levelsOf t) (givenOf t) layered-sound layered-founded
