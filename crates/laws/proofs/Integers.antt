@@ -1,11 +1,11 @@
 -- Orders and sums of integers as those of naturals, which `omega` decides: z is up z − down z. Assumes nothing.
-use Prim.Native.Nat.{ℕ, zero, suc, _+_, _≤_, _<_}
-use mathlib.Core.Path.{_≡_, sym, _∙_}
+use Prim.Native.Nat.{ℕ, suc, _+_, _≤_, _<_}
+use mathlib.Core.Path.{_≡_, sym}
 use mathlib.Core.Bool.{false, So, false≢true}
 use native.Mathlib.Omega.{arith}
 use lib.Dec.{ltb}
 use borrow.Author.Tests.{ltb-true, ltb-false}
-use lib.IntN.{ℤ, pos, negsuc, negℤ, subℕ, _+ℤ_}
+use lib.IntN.{ℤ, pos, negsuc, subℕ, _+ℤ_}
 use lib.Signed.{ltZ}
 use Rattle.laws.proofs.Tests.{by-test}
 
@@ -40,14 +40,11 @@ lt-fails (pos a) (negsuc b) f = omega arith
 lt-fails (negsuc a) (pos b) f = absurd (false≢true (sym f))
 lt-fails (negsuc a) (negsuc b) f = omega (arith, ltb-false b a f)
 
--- and what makes it pass and fail
+-- and what makes it pass
 pub passes-lt : (a b : ℤ) → Below a b → So (ltZ a b)
 passes-lt a b h = by-test (ltZ a b) (λ t. t) (λ f. absurd (omega (arith, lt-fails a b f)))
 
-pub fails-lt : (a b : ℤ) → AtMost b a → ltZ a b ≡ false
-fails-lt a b h = by-test (ltZ a b) (λ t. absurd (omega (arith, lt-passes a b t))) (λ f. f)
-
--- a difference, a sum, a negation
+-- a difference, a sum
 sub-parts : (a b : ℕ) → up (subℕ a b) + b ≡ a + down (subℕ a b)
 unfolding up down
 sub-parts a b =
@@ -59,16 +56,3 @@ sum-parts (pos a) (pos b) = omega arith
 sum-parts (pos a) (negsuc b) = omega (arith, sub-parts a (suc b))
 sum-parts (negsuc a) (pos b) = omega (arith, sub-parts b (suc a))
 sum-parts (negsuc a) (negsuc b) = omega arith
-
-neg-parts : (a : ℤ) → up (negℤ a) + up a ≡ down a + down (negℤ a)
-unfolding up down
-neg-parts (pos zero) = omega arith
-neg-parts (pos (suc n)) = omega arith
-neg-parts (negsuc n) = omega arith
-
--- negation turns an order round
-pub lt-neg : (a b : ℤ) → ltZ (negℤ a) (negℤ b) ≡ ltZ b a
-lt-neg a b =
-    by-test (ltZ b a)
-    (λ t. passes-lt (negℤ a) (negℤ b) (omega (arith, lt-passes b a t, neg-parts a, neg-parts b)) ∙ sym t)
-    (λ f. fails-lt (negℤ a) (negℤ b) (omega (arith, lt-fails b a f, neg-parts a, neg-parts b)) ∙ sym f)

@@ -106,7 +106,7 @@ kept c c′ is is′ m = record {
       let (A′, f′, k′, F′) = demands c′ is′ .answers also in
       let p = F .answer a (omega (arith, l, k)) in
       let p′ = F′ .answer a (omega (arith, l, k′, count-atoms (c .book) (c′ .book) (m .gives))) in
-      p′ ∙ code-kept (answersOf A a) (answersOf A′ a) (grow A A′ f f′ a) (λ z. n (p ∙ z)) ∙ sym p;
+      p′ ∙ code-kept (answersOf A a) (answersOf A′ a) (grow A A′ f f′ a) (λ z. n (omega (arith, p, z))) ∙ sym p;
 }
   where
     also : AcceptedCall c′

@@ -135,7 +135,7 @@ sums = record { right = (refl, (refl, (refl, (refl, (refl, (refl, (refl, (refl, 
 
 extremes : Group Models.extremes
 unfolding everything Models.extremes
-extremes = record { right = (refl, (refl, (refl, (refl, (refl, (refl, tt)))))) }
+extremes = record { right = (refl, (refl, (refl, (refl, (refl, (refl, (refl, (refl, tt)))))))) }
 
 maxima : Group Models.maxima
 unfolding everything Models.maxima
@@ -215,7 +215,11 @@ ownMaxima = record { right = (refl, (refl, (refl, (refl, (refl, (refl, (refl, (r
 
 order : Group Refused.order
 unfolding everything Refused.order
-order = record { right = (refl, (refl, (refl, (refl, (refl, (refl, (refl, (refl, (refl, (refl, tt)))))))))) }
+order = record { right = (refl, (refl, (refl, (refl, (refl, (refl, (refl, (refl, (refl, (refl, (refl, tt))))))))))) }
+
+neighbours : Group Refused.neighbours
+unfolding everything Refused.neighbours
+neighbours = record { right = (refl, (refl, (refl, (refl, (refl, (refl, (refl, (refl, tt)))))))) }
 
 places : Group Refused.places
 unfolding everything Refused.places
@@ -230,7 +234,7 @@ groups =
     also rounds also unfoundedSets also bodies
     also bytes also counts also codes also indices also records also rules
     also positively also ownCounts also ownSums also ownNegatedSums also ownMinima also ownMaxima
-    also order also places
+    also order also neighbours also places
 
 -- every example is right
 pub right : Every Right examples
@@ -240,4 +244,13 @@ right = groups .right
 pub written : Written
 unfolding everything
 written =
-    record { empty-long = refl; long = refl; offsets = refl; counts = refl; bodies = refl; sum-bodies = refl }
+    record {
+      empty-long = refl;
+      empty-offsets = refl;
+      empty-counts = refl;
+      long = refl;
+      offsets = refl;
+      counts = refl;
+      bodies = refl;
+      sum-bodies = refl;
+    }

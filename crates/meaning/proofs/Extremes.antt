@@ -1,7 +1,7 @@
 -- Max by any order of the weights, of which min is an instance: what keeps a relation, and that none holds beside its
 -- opposite. Assumes nothing.
 use mathlib.Core.Logic.{⊎-elim}
-use mathlib.Core.Bool.{Bool, not, _&&_, So}
+use mathlib.Core.Bool.{Bool, not, So}
 use mathlib.Core.List.{List}
 use lib.IntN.{ℤ}
 use Rattle.laws.specs.Lists.{any}
@@ -9,14 +9,10 @@ use Rattle.laws.proofs.Tests.{left, right, or-of, not-of, and-map, or-map, not-
 use Rattle.laws.proofs.Entries.{any-entry, all-entry, any-map, all-map}
 use Rattle.theory.specs.Answers.{Answers}
 use Rattle.meaning.specs.Reading.{Element, Relation}
-use Rattle.meaning.specs.Truth.{allPossible, definite, extreme, opposite, possible, related, someDefinite}
+use Rattle.meaning.specs.Truth.{allPossible, attained, definite, extreme, opposite, possible, related, someDefinite}
 use Rattle.meaning.specs.Refusal.{isAbove}
 use Rattle.meaning.proofs.Relations.{by-opposites, by-above, related-clash}
 use Rattle.meaning.proofs.Elements.{Definite, Possible, definite-possible}
-
--- there is a definite element, and the greatest stands in a relation to k
-abbrev pub attained : (ℤ → ℤ → Bool) → Relation → Answers → List Element → ℤ → Bool
-attained below r A es k = any (definite A) es && extreme below r A es k
 
 -- some definite weight, and each possible one, stands in a relation to k
 abbrev some : (ℤ → ℤ → Bool) → ℤ → Answers → List Element → Relation → Bool

@@ -41,7 +41,7 @@ of-complete k (inr e) = ap isComplete e
 
 -- a certain atom is neither closed nor complete
 pub certain≢closed : {k : Kind} → k ≡ Kind.certain → k ≡ Kind.closed → ⊥
-certain≢closed p q = false≢true (sym (ap isClosed p) ∙ ap isClosed q)
+certain≢closed p q = false≢true (sym (ap isComplete p) ∙ ap isComplete q)
 
 pub not-complete : {k : Kind} → k ≡ Kind.certain → Complete k → ⊥
 not-complete {k} p c = false≢true (sym (ap isComplete p) ∙ of-complete k c)
@@ -51,7 +51,7 @@ pub open-not-certain : {k : Kind} → k ≡ Kind.«open» → k ≡ Kind.certain
 open-not-certain p q = false≢true (sym (ap isCertain p) ∙ ap isCertain q)
 
 pub open-not-closed : {k : Kind} → k ≡ Kind.«open» → k ≡ Kind.closed → ⊥
-open-not-closed p q = false≢true (sym (ap isClosed p) ∙ ap isClosed q)
+open-not-closed p q = false≢true (sym (ap isComplete p) ∙ ap isComplete q)
 
 pub open-not-complete : {k : Kind} → k ≡ Kind.«open» → Complete k → ⊥
 open-not-complete {k} p c = false≢true (sym (ap isComplete p) ∙ of-complete k c)

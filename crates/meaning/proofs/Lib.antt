@@ -9,8 +9,6 @@ pub mod Sums
 pub mod Extremes
 -- when an aggregate's relation holds, and what keeps it so
 pub mod Local
--- count as a sum, min as a max
-pub mod Aggregates
 -- what a hypothesis reads, and what keeps it true
 pub mod Hypotheses
 -- when a rule body is true or false
@@ -47,5 +45,7 @@ pub mod Rooms
 pub mod Demands
 -- the examples, computed
 pub mod Examples
+-- what is asked can be met
+pub mod Premises
 -- why an emptied set is no positive use
 pub mod Emptying

@@ -9,12 +9,12 @@ use Rattle.laws.specs.Lists.{In}
 use Rattle.laws.proofs.Integers.{AtMost, lt-fails}
 use Rattle.theory.specs.Answers.{Answers}
 use Rattle.meaning.specs.Reading.{Aggregate, Element, Relation}
-use Rattle.meaning.specs.Truth.{above, holds, mirror, one, opposite, ownWeight}
+use Rattle.meaning.specs.Truth.{above, attained, holds, mirror, one, opposite, ownWeight}
 use Rattle.meaning.specs.Refusal.{grows, isAbove, shrinks}
 use Rattle.meaning.proofs.Relations.{by-opposites, by-below}
 pub use Rattle.meaning.proofs.Elements.{Definite, Possible}
 use Rattle.meaning.proofs.Sums.{weighed-clash, weighed-keeps, weighed-grows, weighed-shrinks}
-use Rattle.meaning.proofs.Extremes.{attained, attained-clash, attained-keeps, attained-grows}
+use Rattle.meaning.proofs.Extremes.{attained-clash, attained-keeps, attained-grows}
 
 module _ (A B : Answers) (es : List Element) where
   -- A relation that holds still holds with more definite and fewer possible elements.
@@ -23,7 +23,7 @@ module _ (A B : Answers) (es : List Element) where
   unfolding holds
   holds-local d p Aggregate.count r k = weighed-keeps one A B es d p r k
   holds-local d p Aggregate.sum r k = weighed-keeps ownWeight A B es d p r k
-  holds-local d p Aggregate.min r k = attained-keeps above A B es k d p (mirror r)
+  holds-local d p Aggregate.min r k = attained-keeps above A B es k d p _
   holds-local d p Aggregate.max r k = attained-keeps ltZ A B es k d p r
 
   -- a count weighs each element 1

@@ -1,4 +1,4 @@
--- A longer book has the refusal of its start: with more than 64,816 bytes none passes the checks 1 to 3, and these look
+-- A longer book has the refusal of its start: none of more than 64,816 bytes passes the checks 1 to 3, and these look
 -- at its length and its first 48 bytes alone. Assumes nothing.
 use mathlib.Core.Path.{_≡_, refl, sym, ap, _∙_, subst}
 use mathlib.Core.Bool.{true, false}

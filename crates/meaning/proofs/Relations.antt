@@ -50,4 +50,4 @@ pub grows-alone : (g : Aggregate) (r : Relation) → So (grows g r) → shrinks 
 grows-alone Aggregate.count r s = by-above (λ r. isBelow r ≡ false) refl refl r s
 grows-alone Aggregate.sum r s = refl
 grows-alone Aggregate.min r s = refl
-grows-alone Aggregate.max r s = refl
+grows-alone Aggregate.max r s = by-above (λ r. shrinks Aggregate.max r ≡ false) refl refl r s

@@ -12,7 +12,7 @@ use Rattle.laws.proofs.Integers.{AtMost, lt-passes, lt-fails, passes-lt, sum-pa
 use Rattle.theory.specs.Truth.{Truth, isTrue, isFalse}
 use Rattle.theory.specs.Answers.{Answers}
 use Rattle.meaning.specs.Reading.{Element, Relation}
-use Rattle.meaning.specs.Truth.{above, between, elementTruth, least, leastShare, most, mostShare, opposite, related, total}
+use Rattle.meaning.specs.Truth.{above, between, elementTruth, least, leastShare, most, mostShare, opposite, related, total, weighed}
 use Rattle.meaning.specs.Refusal.{isAbove, isBelow}
 use Rattle.meaning.proofs.Relations.{by-opposites, by-above, by-below}
 use Rattle.meaning.proofs.Elements.{Definite, Possible, FromTrue, FromFalse, stays-true, stays-false}
@@ -159,10 +159,6 @@ module _ (low high low′ high′ k : ℤ) (l : AtMost low low′) (h : AtMost h
   between-keeps Relation.le t = between-below low high low′ high′ k h Relation.le refl t
   between-keeps Relation.gt t = between-above low high low′ high′ k l Relation.gt refl t
   between-keeps Relation.ge t = between-above low high low′ high′ k l Relation.ge refl t
-
--- a relation between the least and the most of some weights
-abbrev pub weighed : (Element → ℤ) → Relation → Answers → List Element → ℤ → Bool
-weighed weigh r A es k = between r (least weigh A es) (most weigh A es) k
 
 -- no relation holds beside its opposite
 pub weighed-clash : (weigh : Element → ℤ) (A : Answers) (es : List Element) (k : ℤ) (r : Relation) →

@@ -31,7 +31,7 @@ use Rattle.meaning.proofs.Sound.{Sound}
 use Rattle.meaning.proofs.Unfounded.{fails→false, false→fails}
 
 -- rules as read, as rules of the theory
-abbrev rules : Reading → Rules
+abbrev pub rules : Reading → Rules
 rules R = record {
   Rule = Rule;
   Hypothesis = Hypothesis;
@@ -44,7 +44,7 @@ rules R = record {
 }
 
 -- a body is true, or some hypothesis is not
-body-or : (A : Answers) (r : Rule) →
+pub body-or : (A : Answers) (r : Rule) →
     BodyTrue A r ⊎ ((h : Hypothesis) × In h (r .body) × (hypothesisTruth A h ≡ Truth.true → ⊥))
 body-or A r =
     let holds : Hypothesis → Bool = λ h. isTrue (hypothesisTruth A h) in
@@ -52,7 +52,7 @@ body-or A r =
     (λ f. let (h, i, n) = not-all holds (r .body) f in inr (h, i, λ e. test-clash (ap isTrue e) n))
 
 -- the rules as a book of the theory
-abbrev book : Reading → Book
+abbrev pub book : Reading → Book
 book R = record {
   rules = rules R;
   Has = λ r. In r (R .rules);
@@ -64,13 +64,13 @@ book R = record {
 
 module _ (R : Reading) (levels : List ℕ) (given : List Truth) (S : Sound R levels given) where
   -- what a hypothesis of a rule reads, the rule uses
-  reads-use : (r : Rule) (h : Hypothesis) → In h (r .body) → (a : ℕ) → Reads h a →
+  pub reads-use : (r : Rule) (h : Hypothesis) → In h (r .body) → (a : ℕ) → Reads h a →
       (u : Use) × In u (uses r) × (u .atom ≡ a)
   unfolding uses
   reads-use r h i a m = let (u, j, e) = uses-reads h a m in (u, in-gather usesOf (r .body) h u i j, e)
 
   -- in a rule for a certain atom, counting undefined atoms of the level as false makes nothing true
-  positive : (r : Rule) → In r (R .rules) → kindAt (R .kinds) (r .head) ≡ Kind.certain →
+  pub positive : (r : Rule) → In r (R .rules) → kindAt (R .kinds) (r .head) ≡ Kind.certain →
       (h : Hypothesis) → In h (r .body) → (U : Atoms) (A : Answers) →
       ((a : ℕ) → So (U a) → (levelAt levels a ≡ levelAt levels (r .head)) × (A a ≡ Truth.undefined)) →
       hypothesisTruth (wipe U A) h ≡ Truth.true → hypothesisTruth A h ≡ Truth.true
@@ -79,7 +79,7 @@ module _ (R : Reading) (levels : List ℕ) (given : List Truth) (S : Sound R lev
       positive-use U A h (λ u k m. S .positive r i c u (in-gather usesOf (r .body) h u j k) (sym (f (u .atom) m .0)))
 
   -- its levels, with what 9 to 11 say of them
-  abbrev layers : Layers (book R)
+  abbrev pub layers : Layers (book R)
   layers = record {
     level = levelAt levels;
     lower = λ r i h j a m. let (u, k, e) = reads-use r h j a m in rw (← e) (S .lower r i u k);
@@ -181,11 +181,11 @@ module _ (R : Reading) (levels : List ℕ) (given : List Truth) (S : Sound R lev
       TheoryLevels.uncertain (levels-there before) f (run-there (there n) (λ _ _. step-there n) run) (ended-there n end)
 
   -- founded answers are the theory's model
-  model-there : {A : List Truth} → Founded R levels given A → Model (book R) layers (answersOf given) (answersOf A)
+  pub model-there : {A : List Truth} → Founded R levels given A → Model (book R) layers (answersOf given) (answersOf A)
   model-there f = record { most = levelCount; covers = covers; levels = levels-there (f .worked) }
 
   -- what is given is given to open atoms that no rule concludes
-  fresh : Fresh (rules R) (whole (book R)) (answersOf given)
+  pub fresh : Fresh (rules R) (whole (book R)) (answersOf given)
   fresh = record {
     heads = λ r i e. S .given-free (r .head) (λ u. undefined-false u e) r i refl;
     completes = λ a c e. open-not-complete (S .given-open a (λ u. undefined-true u e)) c;

@@ -18,7 +18,7 @@ pub mod Refused
 use Notation.{Example, minus}
 use Marked.{bounds, edges, empty, kinds, listing, loops, openAtoms, ranges}
 use Models.{bodies, extremes, largest, maxima, minima, rounds, smallest, sumWithNegative, sums, unfoundedSets}
-use Refused.{bytes, codes, counts, indices, order, ownCounts, ownMaxima, ownMinima, ownNegatedSums, ownSums, places, positively, records, rules}
+use Refused.{bytes, codes, counts, indices, neighbours, order, ownCounts, ownMaxima, ownMinima, ownNegatedSums, ownSums, places, positively, records, rules}
 
 -- the entry returns the number, and the room is as said afterwards
 abbrev pub Right : Example → Type 0
@@ -38,7 +38,7 @@ examples =
     -- our own: refusal 10
     ++ positively ++ ownCounts ++ ownSums ++ ownNegatedSums ++ ownMinima ++ ownMaxima
     -- our own: the order of refusals, and their places
-    ++ order ++ places
+    ++ order ++ neighbours ++ places
 
 -- the six entries of a table of contents, from 0
 abbrev pub six : List ℕ
@@ -86,6 +86,8 @@ sumBytes =
 -- How a book is written, byte by byte: the empty book, the one that the listing program prints, and one with a sum.
 pub record Written : Type 0 where
   pub empty-long : length empty ≡ 48
+  pub empty-offsets : map (offsetOf empty) six ≡ 48 ∷ 48 ∷ 48 ∷ 48 ∷ 48 ∷ 48 ∷ []
+  pub empty-counts : map (countOf empty) six ≡ 0 ∷ 0 ∷ 0 ∷ 0 ∷ 0 ∷ 0 ∷ []
   pub long : length listing ≡ 86
   pub offsets : map (offsetOf listing) six ≡ 48 ∷ 50 ∷ 59 ∷ 77 ∷ 86 ∷ 86 ∷ []
   pub counts : map (countOf listing) six ≡ 1 ∷ 3 ∷ 3 ∷ 3 ∷ 0 ∷ 0 ∷ []

@@ -69,6 +69,10 @@ between Relation.le low high k = related ltZ Relation.le high k
 between Relation.gt low high k = related ltZ Relation.gt low k
 between Relation.ge low high k = related ltZ Relation.ge low k
 
+-- count or sum, by what each element weighs
+abbrev pub weighed : (Element → ℤ) → Relation → Answers → List Element → ℤ → Bool
+weighed weigh r A es k = between r (least weigh A es) (most weigh A es) k
+
 -- Max, by an order of the weights; min is max by the reversed order, its relation mirrored.
 abbrev pub someDefinite : (ℤ → Bool) → Answers → List Element → Bool
 someDefinite test A es = any (λ e. definite A e && test (e .weight)) es
@@ -86,6 +90,11 @@ extreme below Relation.le A es k = allPossible (λ w. related below Relation.le 
 extreme below Relation.gt A es k = someDefinite (λ w. related below Relation.gt w k) A es
 extreme below Relation.ge A es k = someDefinite (λ w. related below Relation.ge w k) A es
 
+-- never true without a definite element
+abbrev pub attained : (ℤ → ℤ → Bool) → Relation → Answers → List Element → ℤ → Bool
+attained below r A es k = any (definite A) es && extreme below r A es k
+
+-- the reversed order
 abbrev pub above : ℤ → ℤ → Bool
 above w k = ltZ k w
 
@@ -105,12 +114,11 @@ opposite Relation.le = Relation.gt
 opposite Relation.gt = Relation.le
 opposite Relation.ge = Relation.lt
 
--- max and min are never true without a definite element
 unfoldable pub holds : Aggregate → Relation → Answers → List Element → ℤ → Bool
-holds Aggregate.count r A es k = between r (least one A es) (most one A es) k
-holds Aggregate.sum r A es k = between r (least ownWeight A es) (most ownWeight A es) k
-holds Aggregate.min r A es k = any (definite A) es && extreme above (mirror r) A es k
-holds Aggregate.max r A es k = any (definite A) es && extreme ltZ r A es k
+holds Aggregate.count r A es k = weighed one r A es k
+holds Aggregate.sum r A es k = weighed ownWeight r A es k
+holds Aggregate.min r A es k = attained above (mirror r) A es k
+holds Aggregate.max r A es k = attained ltZ r A es k
 
 abbrev pub decided : Bool → Bool → Truth
 decided t f = cond t Truth.true (cond f Truth.false Truth.undefined)

@@ -150,6 +150,9 @@ extremes =
     ∷ accepted (sumOf (minus 2147483648) (pos 2147483647) eq (minus 1)) (true ∷ true ∷ true ∷ [])
     ∷ accepted (sumOf (pos 2147483647) (pos 1) gt (pos 2147483647)) (true ∷ true ∷ true ∷ [])
     ∷ accepted (sumOf (minus 2147483648) (minus 1) lt (minus 2147483648)) (true ∷ true ∷ true ∷ [])
+    -- below 0 the bits count down from -1: 2 and -2 are 0, 1 and -1 not below it
+    ∷ accepted (sumOf (pos 2) (minus 2) eq (pos 0)) (true ∷ true ∷ true ∷ [])
+    ∷ accepted (sumOf (pos 1) (minus 1) ge (pos 0)) (true ∷ true ∷ true ∷ [])
     -- ≠ is false when = is true
     ∷ accepted (sumOf (pos 1) (pos 1) ne (pos 2)) (true ∷ true ∷ false ∷ [])
     -- Count ignores weights.

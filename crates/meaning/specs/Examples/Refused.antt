@@ -181,8 +181,10 @@ ownMaxima =
 -- Checks run in number order; the first that is met is given.
 unfoldable pub order : List Example
 order =
+    -- 1 before 2: too short, and a count above its limit
+    refused (take 47 (setCount 1 129 whole)) 1_0_000000
     -- 2 before 3, 3 before 4, 4 before 5, 5 before 6, 6 before 7
-    refused (setCount 5 513 (setOffset 1 0 whole)) 2_5_000000
+    ∷ refused (setCount 5 513 (setOffset 1 0 whole)) 2_5_000000
     ∷ refused (setOffset 6 0 (setByte 1 1 0 4 whole)) 3_6_000000
     ∷ refused (setByte 2 3 0 2 (setByte 6 3 0 2 whole)) 4_6_000003
     ∷ refused (setByte 6 3 1 0 (setByte 4 2 1 4 whole)) 5_4_000002
@@ -202,6 +204,21 @@ order =
     10_3_000001
     -- 11 before 12
     ∷ record { book = uncertain is; room = nines 2; number = 11_3_000001; after = nines 2 }
+    ∷ []
+
+-- Two tables that follow one another, both at fault: the place is in the first, though the other's record is lower.
+unfoldable pub neighbours : List Example
+neighbours =
+    -- 4: tables 1, 2, 4, 5, 6
+    refused (setByte 1 1 0 4 (setByte 2 0 2 3 whole)) 4_1_000001
+    ∷ refused (setByte 2 3 2 3 (setByte 4 0 0 3 whole)) 4_2_000003
+    ∷ refused (setByte 4 2 0 3 (setByte 5 0 0 4 whole)) 4_4_000002
+    ∷ refused (setByte 5 1 1 6 (setByte 6 0 0 2 whole)) 4_5_000001
+    -- 5: tables 2 to 6
+    ∷ refused (setByte 2 3 0 2 (setByte 3 0 0 4 whole)) 5_2_000003
+    ∷ refused (setByte 3 1 0 4 (setByte 4 0 1 2 whole)) 5_3_000001
+    ∷ refused (setByte 4 2 1 4 (setByte 5 0 8 5 whole)) 5_4_000002
+    ∷ refused (setByte 5 1 8 3 (setByte 6 0 1 4 whole)) 5_5_000001
     ∷ []
 
 -- The place is the lowest record in the first table, in table order, that is at fault.
