@@ -1,10 +1,13 @@
 -- The program's text is that of the book's refusal or of its model, and its contract admits no other. Assumes nothing.
 use mathlib.Core.Path.{_≡_, refl, sym, ap, ap₂, _∙_}
 use mathlib.Core.List.{List, _++_, map}
-use mathlib.Core.Option.{some}
+use mathlib.Core.Logic.{by-cases}
+use mathlib.Core.Option.{Option, none, some}
 use Prim.Native.Nat.{ℕ, zero, suc, _<_}
+use native.Mathlib.Decide.{decLt}
 use native.Mathlib.Omega.{arith}
 use lib.ListN.{length, drop, getD, length-map, take, take-append-drop, List·getD-append}
+use lib.Seq.{take-all}
 use contract.Lifetimes.{Lfts}
 use borrow.Fn.Kinds.{endedOf}
 use borrow.Fn.World.{ArgsD, ResD}
@@ -19,13 +22,14 @@ use Rattle.meaning.specs.Demands.{Accepted}
 use Rattle.meaning.specs.Outcome.{modelOf, written}
 use Rattle.meaning.proofs.Bytes.{atoms-length}
 use Rattle.meaning.proofs.Demands.{model-length}
+use Rattle.meaning.proofs.Longer.{longer}
 use Rattle.meaning.proofs.Rooms.{accepted, refused}
 use Rattle.listing.specs.Listing.{Listing}
-use Rattle.listing.specs.Text.{answersText, lineOf, linesOf, listingOf, refusedText, roomLength, textOf}
+use Rattle.listing.specs.Text.{answersText, lineOf, linesOf, listingOf, readMost, refusedText, roomLength, textOf}
 use Rattle.listing.proofs.list.list.{signature}
 use Rattle.listing.proofs.list.list.Kinds as kinds
 use Rattle.listing.proofs.list.list.Reads as reads
-use Rattle.listing.proofs.ListingLaws.{zeros, zeros-long}
+use Rattle.listing.proofs.ListingLaws.{accepted-short, zeros, zeros-long}
 use Rattle.listing.proofs.SmallLaws.{number-below, packed-apart, packed-some}
 use Rattle.listing.proofs.RefusalLaws.{refusal-small}
 
@@ -61,11 +65,22 @@ answered-text b e =
     (answers-same (countOf b 1) (written (modelOf b) zeros) (map codeOf (modelOf b))
     (λ a m. List·getD-append (map codeOf (modelOf b)) (drop (length (modelOf b)) zeros) 0 a (omega (arith, m, l))))
 
+-- an accepted book is no longer than the largest, and a longer one has the refusal of its start
+longer-text : (b : List ℕ) → listingOf (take readMost b) ≡ listingOf b
+longer-text b =
+    by-cases (decLt 64816 (length b)) (λ l. go l (refusal b roomLength) refl)
+    (λ l. ap listingOf (take-all readMost b (omega (arith, l))))
+  where
+    go : 64816 < length b → (o : Option Refusal) → refusal b roomLength ≡ o → listingOf (take readMost b) ≡ listingOf b
+    go l none e = absurd (omega (arith, l, accepted-short b e))
+    go l (some r) e = refused-text (take readMost b) r (longer b roomLength l ∙ e) ∙ sym (refused-text b r e)
+
 pub listing : Listing listingOf
 listing = record {
   refused = refused-text;
   answered = answered-text;
   enough = λ b r e. number-below r (refusal-small b r e);
+  longer = longer-text;
 }
 
 -- what the contract of `list` says of a call: how many bytes of the text, and what the buffer holds afterwards

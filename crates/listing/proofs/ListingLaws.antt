@@ -6,13 +6,14 @@ use Prim.Native.Nat.{ℕ, _≤_}
 use native.Mathlib.Omega.{arith}
 use lib.ListN.{length, take, length-replicate, replicate}
 use borrow.Author.Tests.{eq-eqb, ne-eqb}
-use Rattle.meaning.specs.Format.{contents, countOf, tables}
+use Rattle.meaning.specs.Format.{contents, countOf, start, tables}
 use Rattle.meaning.specs.Refusal.{Refusal, packed, refusal, refusals}
 use Rattle.meaning.specs.Demands.{Accepted}
 use Rattle.meaning.specs.Outcome.{Outcome, outcome}
 use Rattle.meaning.proofs.Absent.{none-each}
 use Rattle.meaning.proofs.Bytes.{atoms-length}
 use Rattle.meaning.proofs.Rooms.{refused, room-enough}
+use Rattle.book.specs.Framed.{Framed}
 use Rattle.checks.proofs.FrameLaws.{framed}
 use Rattle.listing.specs.Put.{Put}
 use Rattle.listing.specs.Text.{answersText, listingOf, packedText, roomLength, textOf}
@@ -40,12 +41,31 @@ number-accepted b n e z = go (refusal b roomLength) refl
 
 -- an accepted book has its contents, and no more atoms than the room has bytes
 module _ (b : List ℕ) (e : Accepted b roomLength) where
-  pub accepted-long : contents ≤ length b
+  accepted-framed : Framed b
   unfolding refusal
-  accepted-long =
+  accepted-framed =
       let t = tables b in
       let (r1, (r2, (r3, _))) = none-each (refusals b t roomLength) e in
-      framed b (rw (r1, r2, r3) refl) .long
+      framed b (rw (r1, r2, r3) refl)
+
+  pub accepted-long : contents ≤ length b
+  accepted-long = accepted-framed .long
+
+  -- the largest book has so many bytes
+  pub accepted-short : length b ≤ 64816
+  unfolding start
+  accepted-short =
+      let few = accepted-framed .counts in
+      omega (
+        arith,
+        accepted-framed .whole,
+        few 0 (omega arith),
+        few 1 (omega arith),
+        few 2 (omega arith),
+        few 3 (omega arith),
+        few 4 (omega arith),
+        few 5 (omega arith),
+      )
 
   pub accepted-few : (n : ℕ) → n ≡ countOf b 1 → n ≤ roomLength
   accepted-few n q = omega (arith, q, atoms-length b, room-enough b roomLength e)

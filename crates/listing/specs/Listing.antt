@@ -4,12 +4,13 @@ use Prim.Native.Nat.{ℕ, _<_}
 use mathlib.Core.Path.{_≡_}
 use mathlib.Core.List.{List, map}
 use mathlib.Core.Option.{some}
+use lib.ListN.{take}
 use Rattle.meaning.specs.Format.{countOf}
 use Rattle.meaning.specs.Reading.{codeOf}
 use Rattle.meaning.specs.Refusal.{Refusal, refusal}
 use Rattle.meaning.specs.Demands.{Accepted}
 use Rattle.meaning.specs.Outcome.{modelOf}
-use Rattle.listing.specs.Text.{answersText, refusedText, roomLength}
+use Rattle.listing.specs.Text.{answersText, readMost, refusedText, roomLength}
 
 pub record Listing (text : List ℕ → List ℕ) : Type 0 where
   -- A refused book gives one line: `refused`, number, table, record.
@@ -19,3 +20,5 @@ pub record Listing (text : List ℕ → List ℕ) : Type 0 where
   pub answered : (b : List ℕ) → Accepted b roomLength → text b ≡ answersText (countOf b 1) (map codeOf (modelOf b))
   -- The program's room is always long enough.
   pub enough : (b : List ℕ) (r : Refusal) → refusal b roomLength ≡ some r → r .number < 12
+  -- A longer book has the refusal of its start: the text for the bytes that are read is the text for the whole input.
+  pub longer : (b : List ℕ) → text (take readMost b) ≡ text b

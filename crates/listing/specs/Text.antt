@@ -66,6 +66,10 @@ textOf n o = cond (eqb (o .number) 0) (answersText n (o .room)) (packedText (o .
 abbrev pub roomLength : ℕ
 roomLength = 2048
 
+-- The program reads at most so many bytes: one more than the largest book has.
+abbrev pub readMost : ℕ
+readMost = 64817
+
 -- what the program prints for a book
 unfoldable pub listingOf : List ℕ → List ℕ
 listingOf b = textOf (countOf b 1) (outcome b (replicate roomLength 0))
