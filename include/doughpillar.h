@@ -2,9 +2,9 @@
 
    The bytes of a book: FORMAT.md. Each function may be called from several threads at once: nothing is kept between
    calls, and the library has no memory of its own. It calls nothing but memcpy and memset. A call takes some 30 KB of
-   stack; leave it 64 KB. Every call ends. As measured, a book takes less than 0.1 s if none of its ranges overlap;
-   others can take seconds, the worst that we know ten. So a host that takes books from anybody calls it where it may
-   wait. */
+   stack; leave it 64 KB. Every call ends, and books as people write them were measured at less than 0.1 s. But a book
+   can be made that takes minutes, and by estimate two hours (docs/BENCHMARK.md, "Hostile books"): a host that takes
+   books from anybody calls it where it may wait, and where it can be stopped. */
 #ifndef DOUGHPILLAR_H
 #define DOUGHPILLAR_H
 
