@@ -37,18 +37,18 @@ module _ (R : Reading) (levels : List ℕ) (long : length (R .kinds) ≡ length 
     fit : (B : List Truth) → length B ≡ length A → Fit R levels n B
     fit B l = record { low = low; of-kinds = omega (arith, l, size, long); of-levels = l ∙ size }
 
-    -- as many rounds as there are atoms
-    rounds : List Truth
-    rounds = times (length A) (round R levels n) A
+    -- rounds, one after the other
+    rounds : ℕ → List Truth
+    rounds m = times m (round R levels n) A
 
-    -- rounds are a run, of steps of either sort
-    rounds-run : (S : Answers → Answers → Type 0) →
+    -- they are a run, of steps of either sort
+    rounds-run : (m : ℕ) (S : Answers → Answers → Type 0) →
         ((B : List Truth) → Fit R levels n B → S (answersOf B) (answersOf (round R levels n B))) →
-        (length rounds ≡ length A) × Run S (answersOf A) (answersOf rounds)
+        (length (rounds m) ≡ length A) × Run S (answersOf A) (answersOf (rounds m))
     unfolding rounds
-    rounds-run S step =
+    rounds-run m S step =
         times-keeps (round R levels n) (λ B. (length B ≡ length A) × Run S (answersOf A) (answersOf B))
-        (λ B (l, r). (round-length R levels n B ∙ l, Founded.next r (step B (fit B l)))) (length A) A
+        (λ B (l, r). (round-length R levels n B ∙ l, Founded.next r (step B (fit B l)))) m A
         (refl, Founded.start)
 
     -- whether an atom is at the level, and whether it is certain
@@ -101,20 +101,24 @@ module _ (R : Reading) (levels : List ℕ) (long : length (R .kinds) ≡ length 
     -- a level keeps the number of answers
     level-length : length (level R levels n A) ≡ length A
     unfolding level rounds
-    level-length = close-length rounds ∙ rounds-run (λ _ _. Unit {0}) (λ _ _. tt) .0
+    level-length = close-length (rounds _) ∙ rounds-run _ (λ _ _. Unit {0}) (λ _ _. tt) .0
+
+    -- after as many rounds as there are atoms nothing changes
+    abbrev last : List Truth
+    last = rounds (length A)
 
     -- one level more
     level-worked : {G : Answers} → AllCertain R levels n ⊎ NoneCertain R levels n → Levels R levels G n (answersOf A) →
         Levels R levels G (suc n) (answersOf (level R levels n A))
     unfolding level rounds
     level-worked {G} (inl all) before =
-        let (l, run) = rounds-run (CertainStep R levels n) (λ B f. round-certain R levels n B f all) in
-        subst (Levels R levels G (suc n)) (sym (close-certain all rounds l))
-        (certain before all run (round-certain-ended R levels n rounds (fit rounds l) (rounds-rest R levels n A)))
+        let (l, run) = rounds-run (length A) (CertainStep R levels n) (λ B f. round-certain R levels n B f all) in
+        subst (Levels R levels G (suc n)) (sym (close-certain all last l))
+        (certain before all run (round-certain-ended R levels n last (fit last l) (rounds-rest R levels n A)))
     level-worked {G} (inr f) before =
-        let (l, run) = rounds-run (Step R levels n) (round-step R levels n) in
-        subst (Levels R levels G (suc n)) (sym (close-uncertain f rounds l))
-        (uncertain before f run (round-ended R levels n rounds (fit rounds l) (rounds-rest R levels n A)))
+        let (l, run) = rounds-run (length A) (Step R levels n) (round-step R levels n) in
+        subst (Levels R levels G (suc n)) (sym (close-uncertain f last l))
+        (uncertain before f run (round-ended R levels n last (fit last l) (rounds-rest R levels n A)))
 
   -- no level mixes certain atoms with others
   abbrev pub Pure : Type 0

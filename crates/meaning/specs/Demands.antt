@@ -44,10 +44,11 @@ pub record Filled (A : List Truth) (room after : List ℕ) : Type 0 where
   pub answer : (a : ℕ) → a < length A → getD after a 0 ≡ codeOf (answersOf A a)
   pub later : (i : ℕ) → length A ≤ i → getD after i 0 ≡ getD room i 0
 
+-- a call whose book is accepted with its room
 abbrev pub AcceptedCall : Call → Type 0
 AcceptedCall c = Accepted (c .book) (length (c .room))
 
--- Demands 1 and 2, of a call.
+-- Demands 1 and 2, of one call.
 pub record Demands (c : Call) : Type 0 where
   -- 1. Every book and every room gets answers or the one refusal that is its own; a refusal changes no byte of the
   -- room.
@@ -59,13 +60,13 @@ pub record Demands (c : Call) : Type 0 where
       × Filled A (c .room) (c .after)
   pub unique : AcceptedCall c → (A A′ : List Truth) → FoundedIn (c .book) A → FoundedIn (c .book) A′ → A ≡ A′
 
--- the second call has a book with more given, and a room of the same length; the first was accepted
+-- two calls: the first is accepted, the second has a book with more given and a room as long
 pub record More (c c′ : Call) : Type 0 where
   pub first : AcceptedCall c
   pub gives : Gives (c .book) (c′ .book)
   pub long : length (c′ .room) ≡ length (c .room)
 
--- Demand 3, of two such calls.
+-- Demand 3, of two such calls (`More`).
 pub record Keeps (c c′ : Call) : Type 0 where
   -- 3. More given open atoms never take back an answer: the second is accepted too, its founded answers keep those of
   -- the first, and so do the bytes in its room.
