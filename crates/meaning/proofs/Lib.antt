@@ -5,6 +5,8 @@ pub mod Relations
 pub mod Elements
 -- count and sum
 pub mod Sums
+-- count is sum with weights of 1
+pub mod CountLaws
 -- max and min
 pub mod Extremes
 -- when an aggregate's relation holds, and what keeps it so
