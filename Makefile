@@ -3,20 +3,21 @@ LIBRARY := target/staticlib/libdoughpillar.a
 SECOND := --manifest-path second/Cargo.toml
 BUILD_SECOND := cargo build --quiet --release --offline --locked $(SECOND) --target-dir target/second
 
-.PHONY: test library listing run host compare bench count
+.PHONY: test beside library listing run host compare bench count
 
-# make test: the layout, the library as C has it, the comparison with the second program, the listing program, what is
-# installed, what the pages show, and last every crate proved from nothing and every must-fail edit refused. The last
-# line is rt ci's own.
+# make test: every crate proved from nothing, every must-fail edit refused, and the tests below. The last line is rt ci's.
 test:
-	@rt fmt --check
+	@tests/all
+
+# make beside: the library as C has it, the listing program, the comparison with the second program, what is installed,
+# and what the pages show.
+beside:
 	@$(MAKE) --no-print-directory library
 	@tests/host/run
 	@$(MAKE) --no-print-directory --jobs=2 --output-sync listing compare
 	@tests/listing/run
 	@tests/install/run
 	@tests/pages/run
-	@rt ci
 
 # make library: proves the engine and archives it, if a crate has changed.
 library: $(LIBRARY)
