@@ -4,7 +4,7 @@ use mathlib.Core.List.{List}
 use Prim.Native.Nat.{ℕ, _≤_}
 use native.Mathlib.Omega.{arith}
 use lib.ListN.{length, take}
-use lib.Seq.{take-all}
+use lib.Seq.{length-take-le, take-all}
 use Rattle.meaning.specs.Format.{contents, countOf, tables}
 use Rattle.meaning.specs.Refusal.{refusal, refusals}
 use Rattle.meaning.specs.Demands.{Accepted}
@@ -39,6 +39,10 @@ module _ (b : List ℕ) (n : ℕ) (v : Verdict) (e : v ≡ verdictOf (refusal b 
 
   pub passed-long : contents ≤ length b
   passed-long = passed-ready .framed .long
+
+-- all 2,048 answers can be lent too: what is wrong with writing them is what they leave in the room
+pub full-count : (L : List ℕ) → length L ≡ 2048 → 2048 ≡ length (take 2048 L)
+full-count L l = sym (length-take-le 2048 L (omega (arith, l)))
 
 -- one that passed with this room, and one that did not
 module _ (b room : List ℕ) (v : Verdict) (e : v ≡ verdictOf (refusal b (length room))) where
@@ -75,6 +79,7 @@ module _ (b room : List ℕ) (v : Verdict) (e : v ≡ verdictOf (refusal b (leng
 pub ruleset answering = (
   prefix-room,
   prefix-count,
+  full-count,
   passed-ready,
   passed-long,
   passed-number,
