@@ -1,7 +1,7 @@
 // The checks 1 to 12 of a rule book.
 // what a check answers
 pub mod verdict;
-// widening, and the larger of two numbers
+// the larger of two numbers
 mod numbers;
 // checks 1 to 3: length, counts and offsets
 mod frame;
@@ -13,8 +13,9 @@ mod pairs;
 mod given;
 // check 8: levels of certain and uncertain predicates
 mod mixture;
-// checks 9 to 11: the marks of comparisons, and the uses of rules
-mod shares;
+// checks 9 to 11: positive use, the highest use of each comparison, and the rules
+mod reaches;
+mod signs;
 mod uses;
 // the twelve in their order
 pub mod check;
