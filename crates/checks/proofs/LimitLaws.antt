@@ -15,7 +15,17 @@ use Rattle.laws.proofs.Numbers.{same-test}
 use Rattle.laws.proofs.Tests.{and-none, by-test}
 use Rattle.meaning.specs.Format.{countOf, noRule, tables}
 use Rattle.meaning.specs.Reading.{Rule, isCertain, levelsOf, reading, ruleOf}
-use Rattle.meaning.specs.Refusal.{lowest, ownNonPositive, refusal10, refusal11, refusal9, uses, usesHigher, usesNonPositively, usesUncertain}
+use Rattle.meaning.specs.Refusal.{
+  lowest,
+  ownNonPositive,
+  refusal10,
+  refusal11,
+  refusal9,
+  uses,
+  usesHigher,
+  usesNonPositively,
+  usesUncertain,
+}
 use Rattle.meaning.proofs.Absent.{clear-at}
 use Rattle.book.specs.Records.{kindRead, levelRead, ruleIn, ruleRead}
 use Rattle.book.proofs.Counts.{rules-length}

@@ -12,8 +12,42 @@ use borrow.Author.Count.{below-more}
 use borrow.Author.Tests.{eqb-true, le-ltb, lt-ltb}
 use Rattle.laws.proofs.Entries.{map-at}
 use Rattle.laws.proofs.Searches.{NoneTo, numbers-none, table-rule}
-use Rattle.meaning.specs.Format.{atomAt, body, comparisonAt, countOf, elementAt, hypothesisAt, noAtom, noComparison, noElement, noHypothesis, noPredicate, noRule, predicateAt, ruleAt, tables}
-use Rattle.meaning.specs.Refusal.{Refusal, atRecord, codeRefusals, firstOf, lowest, refusal4, refusal5, strayAtom, strayComparison, strayElement, strayHypothesis, strayRule, unlistedAtom, unlistedComparison, unlistedElement, unlistedHypothesis, unlistedPredicate}
+use Rattle.meaning.specs.Format.{
+  atomAt,
+  body,
+  comparisonAt,
+  countOf,
+  elementAt,
+  hypothesisAt,
+  noAtom,
+  noComparison,
+  noElement,
+  noHypothesis,
+  noPredicate,
+  noRule,
+  predicateAt,
+  ruleAt,
+  tables,
+}
+use Rattle.meaning.specs.Refusal.{
+  Refusal,
+  atRecord,
+  codeRefusals,
+  firstOf,
+  lowest,
+  refusal4,
+  refusal5,
+  strayAtom,
+  strayComparison,
+  strayElement,
+  strayHypothesis,
+  strayRule,
+  unlistedAtom,
+  unlistedComparison,
+  unlistedElement,
+  unlistedHypothesis,
+  unlistedPredicate,
+}
 use Rattle.meaning.proofs.Bytes.{atoms-length, body-length}
 use Rattle.checks.specs.Faults.{bodies, bodiesRefusal, bodyRefusal, faultIn, numberOf}
 use Rattle.book.specs.Records.{atomIn, comparisonIn, elementIn, hypothesisIn, predicateIn, ruleIn}

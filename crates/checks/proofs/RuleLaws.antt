@@ -20,7 +20,18 @@ use Rattle.book.specs.Framed.{Framed, Indexed}
 use Rattle.book.specs.Records as records
 use Rattle.book.specs.Records.{kindRead, levelRead, ruleIn, ruleRead}
 use Rattle.book.proofs.Counts.{hypotheses-length}
-use Rattle.checks.specs.Uses.{Reaches, asksOf, comparisonReach, highest, hypothesisReach, limitOf, reachOf, ruleFault, ruleRefusal, numberOf}
+use Rattle.checks.specs.Uses.{
+  Reaches,
+  asksOf,
+  comparisonReach,
+  highest,
+  hypothesisReach,
+  limitOf,
+  reachOf,
+  ruleFault,
+  ruleRefusal,
+  numberOf,
+}
 use Rattle.checks.specs.declared.reaches.Aspect.{Aspect}
 use Rattle.checks.specs.declared.reaches.Aspect.the-variants.{Certainty, Height, Sign}
 use Rattle.checks.proofs.LowestLaws.{Found, Seeks, Through, found, through, turns}

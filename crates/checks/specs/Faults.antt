@@ -6,7 +6,21 @@ use Prim.Native.Nat.{ℕ, suc}
 use lib.ListN.{getD}
 use Rattle.laws.specs.Lists.{seekFrom}
 use Rattle.meaning.specs.Format.{countOf}
-use Rattle.meaning.specs.Refusal.{Refusal, atRecord, firstOf, strayAtom, strayComparison, strayElement, strayHypothesis, strayRule, unlistedAtom, unlistedComparison, unlistedElement, unlistedHypothesis, unlistedPredicate}
+use Rattle.meaning.specs.Refusal.{
+  Refusal,
+  atRecord,
+  firstOf,
+  strayAtom,
+  strayComparison,
+  strayElement,
+  strayHypothesis,
+  strayRule,
+  unlistedAtom,
+  unlistedComparison,
+  unlistedElement,
+  unlistedHypothesis,
+  unlistedPredicate,
+}
 use Rattle.book.specs.Records.{atomIn, comparisonIn, elementIn, hypothesisIn, predicateIn, ruleIn}
 use Rattle.checks.specs.declared.records.Fault.{Fault}
 use Rattle.checks.specs.declared.records.Fault.the-variants.{Stray, Unlisted}

@@ -13,9 +13,11 @@ mod pairs;
 mod given;
 // check 8: levels of certain and uncertain predicates
 mod mixture;
-// checks 9 to 11: positive use, the highest use of each comparison, and the rules
-mod reaches;
+// checks 9 to 11: which elements a comparison uses positively
 mod signs;
+// checks 9 to 11: how high uses reach, and the highest of each comparison
+mod reaches;
+// checks 9 to 11: each rule against the limit of its head
 mod uses;
 // the twelve in their order
 pub mod check;

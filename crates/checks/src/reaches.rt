@@ -2,7 +2,7 @@
 ghost use mathlib.Core.Path.{_≡_};
 ghost use Prim.Native.Nat.{_<_, _≤_};
 ghost use Rattle.meaning.specs.Format.{countOf};
-ghost use Rattle.book.specs.Framed.{Framed, Indexed};
+ghost use Rattle.book.specs.Framed.{Ready};
 ghost use Rattle.book.specs.Records.{elementIn};
 ghost use Rattle.checks.specs.Uses.{Reaches, comparisonReach, looksAt, reachOf, usedAs};
 use crate::numbers::larger;
@@ -28,7 +28,7 @@ pub(crate) enum Aspect {
 
 // Does the check look at this use?
 fn looks_at(book: &[u8], aspect: Aspect, atom: usize, positive: bool) -> bool
-    requires { ⌜ Framed (now book) × Indexed (now book) × (atom < countOf (now book) 1) ⌝ }
+    requires { ⌜ Ready (now book) × (atom < countOf (now book) 1) ⌝ }
     ensures { λ r. ⌜ r ≡ looksAt (now (book .entry)) aspect (record { atom = atom; positive = positive }) ⌝ }
 {
     match aspect {
@@ -40,7 +40,7 @@ fn looks_at(book: &[u8], aspect: Aspect, atom: usize, positive: bool) -> bool
 
 // The level above the atom's if it does, else 0.
 pub(crate) fn use_reach(book: &[u8], aspect: Aspect, atom: usize, positive: bool) -> usize
-    requires { ⌜ Framed (now book) × Indexed (now book) × (atom < countOf (now book) 1) ⌝ }
+    requires { ⌜ Ready (now book) × (atom < countOf (now book) 1) ⌝ }
     ensures { λ r. ⌜ (r ≡ reachOf (now (book .entry)) aspect (record { atom = atom; positive = positive }))
         × (r ≤ 256) ⌝ }
 {
@@ -52,7 +52,7 @@ pub(crate) fn use_reach(book: &[u8], aspect: Aspect, atom: usize, positive: bool
 
 // The same of element e, by whether sign 0 and sign 1 are positive.
 fn element_reach(book: &[u8], aspect: Aspect, plain: bool, negated: bool, e: usize) -> usize
-    requires { ⌜ Framed (now book) × Indexed (now book) × (e < countOf (now book) 5) ⌝ }
+    requires { ⌜ Ready (now book) × (e < countOf (now book) 5) ⌝ }
     ensures { λ r. ⌜ (let b = now (book .entry) in
         (r ≡ reachOf b aspect (usedAs plain negated (elementIn b e))) × (r ≤ 256)) ⌝ }
 {
@@ -65,7 +65,7 @@ fn element_reach(book: &[u8], aspect: Aspect, plain: bool, negated: bool, e: usi
 
 // The highest of comparison c.
 fn comparison_reach(book: &[u8], aspect: Aspect, c: usize) -> usize
-    requires { ⌜ Framed (now book) × Indexed (now book) × (c < countOf (now book) 4) ⌝ }
+    requires { ⌜ Ready (now book) × (c < countOf (now book) 4) ⌝ }
     ensures { λ r. ⌜ (r ≡ comparisonReach (now (book .entry)) aspect c) × (r ≤ 256) ⌝ }
 {
     let aggregate = comparison_aggregate(book, c);
@@ -85,7 +85,7 @@ fn comparison_reach(book: &[u8], aspect: Aspect, c: usize) -> usize
 
 // Those of all comparisons.
 pub(crate) fn reaches(book: &[u8], aspect: Aspect) -> [u16; 512]
-    requires { ⌜ Framed (now book) × Indexed (now book) ⌝ }
+    requires { ⌜ Ready (now book) ⌝ }
     ensures { λ r. ⌜ Reaches (now (book .entry)) aspect (countOf (now (book .entry)) 4) r ⌝ }
 {
     let n = count_of(book, 4);

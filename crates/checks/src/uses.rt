@@ -5,7 +5,7 @@ ghost use Prim.Native.Nat.{_<_};
 ghost use Rattle.meaning.specs.Format.{countOf, tables};
 ghost use Rattle.meaning.specs.Reading.{levelsOf, reading};
 ghost use Rattle.meaning.specs.Refusal.{refusal10, refusal11, refusal9};
-ghost use Rattle.book.specs.Framed.{Framed, Indexed};
+ghost use Rattle.book.specs.Framed.{Ready};
 ghost use Rattle.checks.specs.Uses.{
   Reaches,
   asksOf,
@@ -44,7 +44,7 @@ fn number_of(aspect: Aspect) -> u8
 
 // Does the check ask anything of rules with this head?
 fn asks_of(book: &[u8], aspect: Aspect, head: usize) -> bool
-    requires { ⌜ Framed (now book) × Indexed (now book) × (head < countOf (now book) 1) ⌝ }
+    requires { ⌜ Ready (now book) × (head < countOf (now book) 1) ⌝ }
     ensures { λ r. ⌜ r ≡ asksOf (now (book .entry)) aspect head ⌝ }
 {
     match aspect {
@@ -56,7 +56,7 @@ fn asks_of(book: &[u8], aspect: Aspect, head: usize) -> bool
 
 // How high their uses may reach.
 fn limit_of(book: &[u8], aspect: Aspect, head: usize) -> usize
-    requires { ⌜ Framed (now book) × Indexed (now book) × (head < countOf (now book) 1) ⌝ }
+    requires { ⌜ Ready (now book) × (head < countOf (now book) 1) ⌝ }
     ensures { λ r. ⌜ r ≡ limitOf (now (book .entry)) aspect head ⌝ }
 {
     match aspect {
@@ -69,7 +69,7 @@ fn limit_of(book: &[u8], aspect: Aspect, head: usize) -> usize
 // How high hypothesis h reaches.
 fn hypothesis_reach(book: &[u8], found: &[u16], aspect: Aspect, h: usize) -> usize
     requires { ⌜ (let b = now book in
-        Framed b × Indexed b × Reaches b aspect (countOf b 4) (now found) × (h < countOf b 3)) ⌝ }
+        Ready b × Reaches b aspect (countOf b 4) (now found) × (h < countOf b 3)) ⌝ }
     ensures { λ r. ⌜ r ≡ hypothesisReach (now (book .entry)) aspect h ⌝ }
 {
     let sort = hypothesis_sort(book, h);
@@ -84,7 +84,7 @@ fn hypothesis_reach(book: &[u8], found: &[u16], aspect: Aspect, h: usize) -> usi
 // Does a hypothesis of rule r reach above the limit?
 fn rule_fault(book: &[u8], found: &[u16], aspect: Aspect, r: usize) -> bool
     requires { ⌜ (let b = now book in
-        Framed b × Indexed b × Reaches b aspect (countOf b 4) (now found) × (r < countOf b 2)) ⌝ }
+        Ready b × Reaches b aspect (countOf b 4) (now found) × (r < countOf b 2)) ⌝ }
     ensures { λ v. ⌜ v ≡ ruleFault (now (book .entry)) aspect r ⌝ }
 {
     let head = rule_head(book, r);
@@ -106,7 +106,7 @@ fn rule_fault(book: &[u8], found: &[u16], aspect: Aspect, r: usize) -> bool
 
 // The lowest such rule.
 fn check_rules(book: &[u8], aspect: Aspect) -> Verdict
-    requires { ⌜ Framed (now book) × Indexed (now book) ⌝ }
+    requires { ⌜ Ready (now book) ⌝ }
     ensures { λ r. ⌜ r ≡ verdictOf (ruleRefusal (now (book .entry)) aspect) ⌝ }
 {
     let found = reaches(book, aspect);
@@ -127,7 +127,7 @@ fn check_rules(book: &[u8], aspect: Aspect) -> Verdict
 
 // 9: a rule uses a predicate of a higher level than its head's.
 pub(crate) fn check_heights(book: &[u8]) -> Verdict
-    requires { ⌜ Framed (now book) × Indexed (now book) ⌝ }
+    requires { ⌜ Ready (now book) ⌝ }
     ensures { λ r. ⌜ r ≡ verdictOf (let t = tables (now (book .entry)) in refusal9 (reading t .rules) (levelsOf t)) ⌝ }
 {
     check_rules(book, Aspect::Height)
@@ -136,7 +136,7 @@ pub(crate) fn check_heights(book: &[u8]) -> Verdict
 // 10: the head is certain and uses a predicate of its own level non-positively. It is made after 9, so that no atom
 // that a rule uses is above its head's level.
 pub(crate) fn check_signs(book: &[u8]) -> Verdict
-    requires { ⌜ Framed (now book) × Indexed (now book)
+    requires { ⌜ Ready (now book)
         × (let t = tables (now book) in refusal9 (reading t .rules) (levelsOf t) ≡ none) ⌝ }
     ensures { λ r. ⌜ r ≡ verdictOf (let t = tables (now (book .entry)) in refusal10 (reading t) (levelsOf t)) ⌝ }
 {
@@ -145,7 +145,7 @@ pub(crate) fn check_signs(book: &[u8]) -> Verdict
 
 // 11: the head is certain and uses an uncertain predicate.
 pub(crate) fn check_certainty(book: &[u8]) -> Verdict
-    requires { ⌜ Framed (now book) × Indexed (now book) ⌝ }
+    requires { ⌜ Ready (now book) ⌝ }
     ensures { λ r. ⌜ r ≡ verdictOf (refusal11 (reading (tables (now (book .entry))))) ⌝ }
 {
     check_rules(book, Aspect::Certainty)
