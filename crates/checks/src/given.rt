@@ -9,10 +9,10 @@ ghost use Rattle.checks.specs.Marks.{Marked, wrongIn};
 ghost use Rattle.checks.specs.Verdicts.{verdictOf};
 use crate::verdict::Verdict;
 use book::atoms::kind_of;
+use book::casts::short;
 use book::fields::atom_given;
 use book::fields::rule_head;
 use book::readers::count_of;
-use book::readers::short;
 
 // One mark for each atom: 1 if a rule concludes it, else 0.
 fn heads(book: &[u8]) -> [u8; 2048]

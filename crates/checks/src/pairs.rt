@@ -7,12 +7,12 @@ ghost use Rattle.book.specs.Framed.{Ready};
 ghost use Rattle.checks.specs.Verdicts.{verdictOf};
 use crate::numbers::larger;
 use crate::verdict::Verdict;
+use book::casts::short;
+use book::casts::wide;
 use book::fields::comparison_first;
 use book::fields::comparison_many;
 use book::fields::element_atom;
 use book::readers::count_of;
-use book::readers::short;
-use book::readers::wide;
 
 // 6: comparisons, elements and later elements, left at the first pair. The comparison reached is then the place.
 pub(crate) fn check_pairs(book: &[u8]) -> Verdict

@@ -10,6 +10,7 @@ use crate::signs::grows_in;
 use crate::signs::shrinks_in;
 use book::atoms::is_certain;
 use book::atoms::level_of;
+use book::casts::short;
 use book::fields::comparison_aggregate;
 use book::fields::comparison_first;
 use book::fields::comparison_many;
@@ -17,7 +18,6 @@ use book::fields::comparison_relation;
 use book::fields::element_atom;
 use book::fields::element_sign;
 use book::readers::count_of;
-use book::readers::short;
 
 // What a check asks of the atoms that a rule uses: 9 their levels, 10 the signs, 11 whether they are certain.
 pub(crate) enum Aspect {

@@ -9,6 +9,8 @@ ghost use Rattle.book.specs.Framed.{Framed};
 ghost use Rattle.checks.specs.Faults.{bodiesRefusal, bodyRefusal, faultIn, numberOf};
 ghost use Rattle.checks.specs.Verdicts.{verdictAmong, verdictOf};
 use crate::verdict::Verdict;
+use book::casts::narrow;
+use book::casts::short;
 use book::fields::atom_given;
 use book::fields::atom_predicate;
 use book::fields::comparison_aggregate;
@@ -25,8 +27,6 @@ use book::fields::rule_first;
 use book::fields::rule_head;
 use book::fields::rule_many;
 use book::readers::count_of;
-use book::readers::narrow;
-use book::readers::short;
 
 // What can be wrong with a record by itself: a code that is not listed, or an index that is not in its table.
 pub(crate) enum Fault {

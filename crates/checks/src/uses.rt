@@ -22,14 +22,14 @@ use crate::reaches::use_reach;
 use crate::verdict::Verdict;
 use book::atoms::is_certain;
 use book::atoms::level_of;
+use book::casts::short;
+use book::casts::wide;
 use book::fields::hypothesis_index;
 use book::fields::hypothesis_sort;
 use book::fields::rule_first;
 use book::fields::rule_head;
 use book::fields::rule_many;
 use book::readers::count_of;
-use book::readers::short;
-use book::readers::wide;
 
 // The number of the check.
 fn number_of(aspect: Aspect) -> u8
