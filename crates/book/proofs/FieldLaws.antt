@@ -6,7 +6,28 @@ use native.Mathlib.Omega.{arith}
 use lib.IntN.{ℤ}
 use lib.ListN.{getD, drop}
 use lib.Seq.{getD-drop}
-use Rattle.meaning.specs.Format.{atomAt, body, comparisonAt, countOf, elementAt, hypothesisAt, i32At, noAtom, noComparison, noElement, noHypothesis, noPredicate, noRule, predicateAt, ruleAt, signed, tables, u16At, u32At, u8At}
+use Rattle.meaning.specs.Format.{
+  atomAt,
+  body,
+  comparisonAt,
+  countOf,
+  elementAt,
+  hypothesisAt,
+  i32At,
+  noAtom,
+  noComparison,
+  noElement,
+  noHypothesis,
+  noPredicate,
+  noRule,
+  predicateAt,
+  ruleAt,
+  signed,
+  tables,
+  u16At,
+  u32At,
+  u8At,
+}
 use Rattle.meaning.proofs.Bytes.{body-at}
 use Rattle.book.specs.Framed.{Place}
 use Rattle.book.specs.Records.{atomIn, comparisonIn, elementIn, hypothesisIn, predicateIn, ruleIn}

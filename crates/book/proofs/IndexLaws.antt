@@ -15,7 +15,13 @@ use Rattle.meaning.proofs.Absent.{clear-at, none-each}
 use Rattle.meaning.proofs.Bytes.{atoms-length}
 use Rattle.book.specs.Framed.{Indexed}
 use Rattle.book.specs.Records.{ruleIn}
-use Rattle.book.proofs.Counts.{comparisons-length, elements-length, hypotheses-length, predicates-length, rules-length}
+use Rattle.book.proofs.Counts.{
+  comparisons-length,
+  elements-length,
+  hypotheses-length,
+  predicates-length,
+  rules-length,
+}
 
 pub indexed : (b : List ℕ) → refusal5 (tables b) ≡ none → Indexed b
 unfolding refusal5

@@ -31,3 +31,8 @@ pub record Indexed (b : List ℕ) : Type 0 where
       hypothesisIn b h .index < cond (ltb (hypothesisIn b h .sort) 2) (countOf b 1) (countOf b 4)
   pub comparison : (c : ℕ) → c < countOf b 4 → comparisonIn b c .first + comparisonIn b c .many ≤ countOf b 5
   pub element : (e : ℕ) → e < countOf b 5 → elementIn b e .atom < countOf b 1
+
+-- a book that can be worked on: both
+pub record Ready (b : List ℕ) : Type 0 where
+  pub framed : Framed b
+  pub indexed : Indexed b

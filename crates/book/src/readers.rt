@@ -6,15 +6,10 @@ ghost use lib.IntN.{natAbs};
 ghost use lib.ListN.{length, getD};
 ghost use Rattle.meaning.specs.Format.{contents, countOf, i32At, offsetOf, signed, sizes, u16At, u32At, u8At};
 ghost use Rattle.book.specs.Framed.{Framed, Place};
+use crate::casts::widen;
 
 // Bytes of a record of the tables 1 to 6.
 const SIZES: [usize; 6] = [2, 3, 6, 3, 10, 7];
-
-fn widen(x: u8) -> usize
-    ensures { λ r. ⌜ (r ≡ x) × (r < 256) ⌝ }
-{
-    x as usize
-}
 
 pub(crate) fn byte(book: &[u8], i: usize) -> usize
     requires { ⌜ i < length (now book) ⌝ }
@@ -81,25 +76,4 @@ pub(crate) fn place(book: &[u8], k: usize, i: usize) -> usize
     ensures { λ r. ⌜ Place (now (book .entry)) k i r ⌝ }
 {
     offset_of(book, k) + size_of(k) * i
-}
-
-// Numbers that are known to be small, in fewer bits, and back: the number of a check, a table or a record, or a code.
-pub fn narrow(x: usize) -> u8
-    requires { ⌜ x < 256 ⌝ }
-    ensures { λ r. ⌜ r ≡ x ⌝ }
-{
-    x as u8
-}
-
-pub fn short(x: usize) -> u16
-    requires { ⌜ x < 2 ^ 16 ⌝ }
-    ensures { λ r. ⌜ r ≡ x ⌝ }
-{
-    x as u16
-}
-
-pub fn wide(x: u16) -> usize
-    ensures { λ r. ⌜ r ≡ x ⌝ }
-{
-    x as usize
 }

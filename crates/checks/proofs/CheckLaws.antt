@@ -8,7 +8,18 @@ use native.Mathlib.Omega.{arith}
 use lib.ListN.{length}
 use borrow.Author.Tests.{le-ltb, lt-ltb}
 use Rattle.meaning.specs.Format.{countOf, tables}
-use Rattle.meaning.specs.Refusal.{Refusal, codeRefusals, firstOf, frameRefusals, levelRefusals, recordRefusals, refusal, refusal12, refusal5, roomRefusals}
+use Rattle.meaning.specs.Refusal.{
+  Refusal,
+  codeRefusals,
+  firstOf,
+  frameRefusals,
+  levelRefusals,
+  recordRefusals,
+  refusal,
+  refusal12,
+  refusal5,
+  roomRefusals,
+}
 use Rattle.meaning.proofs.Absent.{none-each}
 use Rattle.meaning.proofs.Bytes.{atoms-length}
 use Rattle.book.specs.Framed.{Framed, Indexed}

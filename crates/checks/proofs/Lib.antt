@@ -16,14 +16,11 @@ pub mod GivenLaws
 pub mod MixtureLaws
 -- checks 9 to 11: which uses are positive
 pub mod SignLaws
--- one use, one hypothesis
-pub mod UseLaws
--- the elements of a comparison, and its mark
-pub mod ElementLaws
-pub mod ShareLaws
+-- how high uses reach, and the highest of a comparison
+pub mod ReachLaws
 -- one rule, and all of them
 pub mod RuleLaws
--- a comparison by its mark, and what check 9 gives check 10
-pub mod LowerLaws
+-- a limit on the reach is what document 01 says
+pub mod LimitLaws
 -- the chain of all twelve
 pub mod CheckLaws

@@ -1,74 +1,187 @@
--- Checks 9 to 11: the search through a rule's hypotheses, that through the rules, and that the three are document 01's.
+-- Checks 9 to 11: how high a hypothesis reaches, the search through those of a rule, and that through the rules.
 -- Assumes nothing.
 use mathlib.Core.Path.{_≡_, refl, sym, ap, _∙_}
-use mathlib.Core.Bool.{Bool, true, false, not}
-use mathlib.Core.List.{List, [], map}
-use Prim.Native.Nat.{ℕ, _+_, _<_, _≤_}
+use mathlib.Core.Bool.{Bool, true, false, not, _&&_, _||_}
+use mathlib.Core.List.{List, [], _∷_}
+use Prim.Native.Nat.{ℕ, zero, suc, _+_, _<_, _≤_, max}
+use native.Mathlib.Nat.{max-zero}
 use native.Mathlib.Omega.{arith}
-use lib.ListN.{length, length-map}
+use lib.Dec.{ltb}
+use lib.ListN.{length, getD}
 use lib.Seq.{slice}
+use borrow.Author.Tests.{le-ltb, lt-ltb, ltb-false, ltb-true, not-false}
 use Rattle.laws.specs.Lists.{any}
-use Rattle.laws.proofs.Entries.{map-at, none-any}
-use Rattle.laws.proofs.Ranges.{NoneBetween, any-and, any-gather, any-map, between-next, between-start, slice-none, slice-some}
-use Rattle.meaning.specs.Format.{HypothesisRecord, countOf, noHypothesis, noRule, tables}
-use Rattle.meaning.specs.Reading.{Rule, hypothesisIn, isCertain, levelsOf, reading, ruleOf}
-use Rattle.meaning.specs.Refusal.{lowest, ownNonPositive, refusal10, refusal11, refusal9, uses, usesHigher, usesNonPositively, usesOf, usesUncertain}
-use Rattle.book.specs.Framed.{Indexed}
-use Rattle.book.specs.Records.{kindRead, ruleIn, ruleRead}
-use Rattle.checks.specs.Uses.{hypothesisFault, idleIn, ruleFault, ruleRefusal, useFault}
-use Rattle.checks.specs.Verdicts.{verdictOf}
-use Rattle.checks.specs.declared.verdict.Verdict.{Verdict}
-use Rattle.book.proofs.Counts.{hypotheses-length, rules-length}
-use Rattle.checks.proofs.LowestLaws.{Found, Seeks, Through, found, lowest-is, through, turns}
-use Rattle.checks.proofs.UseLaws.{idle-use}
+use Rattle.laws.proofs.Ranges.{NoneBetween, any-gather, any-map, between-more, between-start, slice-none, slice-some}
+use Rattle.laws.proofs.Tests.{and-none, by-test, fails-of, not-of}
+use Rattle.meaning.specs.Format.{HypothesisRecord, countOf, noHypothesis, tables}
+use Rattle.meaning.specs.Reading.{hypothesisIn, hypothesisOf, isCertain, ruleOf}
+use Rattle.meaning.specs.Refusal.{Use, uses, usesOf}
+use Rattle.book.specs.Framed.{Framed, Indexed}
+use Rattle.book.specs.Records as records
+use Rattle.book.specs.Records.{kindRead, levelRead, ruleIn, ruleRead}
+use Rattle.book.proofs.Counts.{hypotheses-length}
+use Rattle.checks.specs.Uses.{
+  Reaches,
+  asksOf,
+  comparisonReach,
+  highest,
+  hypothesisReach,
+  limitOf,
+  reachOf,
+  ruleFault,
+  ruleRefusal,
+  numberOf,
+}
+use Rattle.checks.specs.declared.reaches.Aspect.{Aspect}
+use Rattle.checks.specs.declared.reaches.Aspect.the-variants.{Certainty, Height, Sign}
+use Rattle.checks.proofs.LowestLaws.{Found, Seeks, Through, found, through, turns}
+
+-- what a check asks of a head, and its number
+module _ (b : List ℕ) (aspect : Aspect) (head : ℕ) where
+  pub asks-height : aspect ≡ Height → true ≡ asksOf b aspect head
+  asks-height e = rw e
+
+  pub asks-sign : (v : Bool) → aspect ≡ Sign → v ≡ isCertain (kindRead b head) → v ≡ asksOf b aspect head
+  asks-sign v e p = rw e p
+
+  pub asks-certainty : (v : Bool) → aspect ≡ Certainty → v ≡ isCertain (kindRead b head) → v ≡ asksOf b aspect head
+  asks-certainty v e p = rw e p
+
+  pub limit-height : (n : ℕ) → aspect ≡ Height → n ≡ levelRead b head → n + 1 ≡ limitOf b aspect head
+  limit-height n e p = rw (e, p)
+
+  pub limit-sign : (n : ℕ) → aspect ≡ Sign → n ≡ levelRead b head → n ≡ limitOf b aspect head
+  limit-sign n e p = rw (e, p)
+
+  pub limit-certainty : aspect ≡ Certainty → 0 ≡ limitOf b aspect head
+  limit-certainty e = rw e
+
+pub ruleset asked = (asks-height, asks-sign, asks-certainty)
+
+pub ruleset limits = (limit-height, limit-sign, limit-certainty)
+
+-- a hypothesis of sort s that points at i
+module _ (b : List ℕ) (h s i : ℕ) (p : s ≡ records.hypothesisIn b h .sort) (q : i ≡ records.hypothesisIn b h .index)
+  where
+    -- what it points at is there
+    module _ (I : Indexed b) (l : h < countOf b 3) where
+      atom-there : s < 2 → i < countOf b 1
+      atom-there m = rw (← p, ← q, lt-ltb s 2 m) at (I .hypothesis h l)
+
+      pub plain-there : s ≡ 0 → i < countOf b 1
+      plain-there e = atom-there (omega (arith, e))
+
+      pub negated-there : s ≡ 1 → i < countOf b 1
+      negated-there e = atom-there (omega (arith, e))
+
+      comparison-there : (s ≡ 0 → ⊥) → (s ≡ 1 → ⊥) → i < countOf b 4
+      comparison-there m n = rw (← p, ← q, le-ltb s 2 (omega (arith, m, n))) at (I .hypothesis h l)
+
+      pub found-there : (aspect : Aspect) (found : List ℕ) → (s ≡ 0 → ⊥) → (s ≡ 1 → ⊥) → Framed b →
+          Reaches b aspect (countOf b 4) found → i < length found
+      found-there aspect found m n F R =
+          omega (arith, comparison-there m n, F .counts 4 (omega arith), R .room)
+
+    -- how high it reaches
+    module _ (aspect : Aspect) (v : ℕ) where
+      pub by-atom : s ≡ 0 → v ≡ reachOf b aspect (record { atom = i; positive = true }) → v ≡ hypothesisReach b aspect h
+      unfolding hypothesisReach usesOf hypothesisOf highest
+      by-atom e r = r ∙ rw (← p, e, q) (sym (max-zero _))
+
+      pub by-negation : s ≡ 1 → v ≡ reachOf b aspect (record { atom = i; positive = false }) →
+          v ≡ hypothesisReach b aspect h
+      unfolding hypothesisReach usesOf hypothesisOf highest
+      by-negation e r = r ∙ rw (← p, e, q) (sym (max-zero _))
+
+      pub by-comparison : (found : List ℕ) → (s ≡ 0 → ⊥) → (s ≡ 1 → ⊥) → Indexed b → h < countOf b 3 →
+          Reaches b aspect (countOf b 4) found → v ≡ getD found i 0 → v ≡ hypothesisReach b aspect h
+      unfolding comparisonReach hypothesisReach hypothesisOf
+      by-comparison found m n I l R r = r ∙ R .at i (comparison-there I l m n) ∙ rw (← p, ← q) (sorted s m n)
+        where
+          sorted : (s : ℕ) → (s ≡ 0 → ⊥) → (s ≡ 1 → ⊥) →
+              comparisonReach b aspect i ≡ highest b aspect (usesOf (hypothesisOf (tables b) s i))
+          sorted zero m n = absurd (m refl)
+          sorted (suc zero) m n = absurd (n refl)
+          sorted (suc (suc s)) m n = refl
+
+pub ruleset sorts = (plain-there, negated-there, found-there, by-atom, by-negation, by-comparison)
+
+-- the highest of several is above a limit if one is
+above-either : (k m n : ℕ) → (ltb k m || ltb k n) ≡ ltb k (max m n)
+above-either k m n =
+    by-test (ltb k m) (λ t. rw t (sym (lt-ltb k (max m n) (omega (arith, ltb-true k m t)))))
+    (λ f. by-test (ltb k n) (λ t. rw (f, t) (sym (lt-ltb k (max m n) (omega (arith, ltb-true k n t)))))
+    (λ g. rw (f, g) (sym (le-ltb k (max m n) (omega (arith, ltb-false k m f, ltb-false k n g))))))
+
+above-highest : (b : List ℕ) (aspect : Aspect) (k : ℕ) (us : List Use) →
+    any (λ u. ltb k (reachOf b aspect u)) us ≡ ltb k (highest b aspect us)
+unfolding highest
+above-highest b aspect k [] = sym (le-ltb k 0 (omega arith))
+above-highest b aspect k (u ∷ us) =
+    ap (λ (t : Bool). ltb k (reachOf b aspect u) || t) (above-highest b aspect k us) ∙
+    above-either k (reachOf b aspect u) (highest b aspect us)
+
+-- hypothesis h reaches above k
+unfoldable pub above : List ℕ → Aspect → ℕ → ℕ → Bool
+above b aspect k h = ltb k (hypothesisReach b aspect h)
+
+-- one hypothesis more that does not
+pub within : (b : List ℕ) (aspect : Aspect) (first k w h : ℕ) → w ≡ hypothesisReach b aspect h → w ≤ k →
+    NoneBetween (above b aspect k) first h → NoneBetween (above b aspect k) first (h + 1)
+unfolding above
+within b aspect first k w h s l n =
+    between-more (above b aspect k) first h n (le-ltb k (hypothesisReach b aspect h) (omega (arith, s)))
 
 -- a rule's hypotheses
-module _ (b : List ℕ) (check r : ℕ) where
-  -- something that a hypothesis of the rule uses is at fault
-  abbrev faultOf : HypothesisRecord → Bool
-  faultOf x = any (useFault b check (ruleIn b r .head)) (usesOf (hypothesisIn (tables b) x))
+module _ (b : List ℕ) (aspect : Aspect) (r : ℕ) where
+  abbrev limit : ℕ
+  limit = limitOf b aspect (ruleIn b r .head)
 
-  over-hypotheses : ruleFault b check r ≡
-      any faultOf (slice (ruleIn b r .first) (ruleIn b r .first + ruleIn b r .many) (tables b .hypotheses))
-  unfolding ruleFault uses ruleOf
+  abbrev aboveOf : HypothesisRecord → Bool
+  aboveOf x = any (λ u. ltb limit (reachOf b aspect u)) (usesOf (hypothesisIn (tables b) x))
+
+  over-hypotheses : any (λ u. ltb limit (reachOf b aspect u)) (uses (ruleRead b r)) ≡
+      any aboveOf (slice (ruleIn b r .first) (ruleIn b r .first + ruleIn b r .many) (tables b .hypotheses))
+  unfolding uses ruleOf
   over-hypotheses =
-      any-gather (useFault b check (ruleIn b r .head)) usesOf (ruleRead b r .body) ∙
-      any-map (λ y. any (useFault b check (ruleIn b r .head)) (usesOf y)) (hypothesisIn (tables b))
+      any-gather (λ u. ltb limit (reachOf b aspect u)) usesOf (ruleRead b r .body) ∙
+      any-map (λ y. any (λ u. ltb limit (reachOf b aspect u)) (usesOf y)) (hypothesisIn (tables b))
       (slice (ruleIn b r .first) (ruleIn b r .first + ruleIn b r .many) (tables b .hypotheses))
 
-  module _ (first many head : ℕ) (I : Indexed b) (l : r < countOf b 2) (p : first ≡ ruleIn b r .first)
-      (q : many ≡ ruleIn b r .many) (e : head ≡ ruleIn b r .head) where
-    whole : ruleFault b check r ≡ any faultOf (slice first (first + many) (tables b .hypotheses))
-    whole = rw (p, q) over-hypotheses
+  module _ (head : ℕ) (e : head ≡ ruleIn b r .head) where
+    pub rule-unasked : (v : Bool) → v ≡ asksOf b aspect head → not v ≡ true → false ≡ ruleFault b aspect r
+    unfolding ruleFault
+    rule-unasked v p f = rw (← e, ← p, fails-of v (not-of v f))
 
-    in-table : first + many ≤ length (tables b .hypotheses)
-    in-table = omega (arith, I .rule r l, p, q, hypotheses-length b)
+    above-at : (k h : ℕ) → k ≡ limitOf b aspect head → above b aspect k h ≡ aboveOf (records.hypothesisIn b h)
+    unfolding above hypothesisReach
+    above-at k h o = rw (o, e) (sym (above-highest b aspect limit (usesOf (records.hypothesisRead b h))))
 
-    pub rule-found : (h : ℕ) (v : Bool) → first ≤ h → h < first + many → v ≡ hypothesisFault b check head h → v ≡ true →
-        true ≡ ruleFault b check r
-    unfolding hypothesisFault
-    rule-found h v m n o t =
-        sym (whole ∙ slice-some noHypothesis (tables b .hypotheses) first (first + many) faultOf in-table h m n
-        (rw (← e) (sym o ∙ t)))
+    module _ (first many : ℕ) (I : Indexed b) (l : r < countOf b 2) (p : first ≡ ruleIn b r .first)
+        (q : many ≡ ruleIn b r .many) where
+      whole : any (λ u. ltb limit (reachOf b aspect u)) (uses (ruleRead b r)) ≡
+          any aboveOf (slice first (first + many) (tables b .hypotheses))
+      whole = rw (p, q) over-hypotheses
 
-    pub rule-none : (h : ℕ) → first + many ≤ h → NoneBetween (hypothesisFault b check head) first h →
-        false ≡ ruleFault b check r
-    unfolding NoneBetween hypothesisFault
-    rule-none h m n =
-        sym (whole ∙ slice-none noHypothesis (tables b .hypotheses) first (first + many) faultOf in-table
-        (λ i o s. rw (← e) (n i o (omega (arith, s, m)))))
+      in-table : first + many ≤ length (tables b .hypotheses)
+      in-table = omega (arith, I .rule r l, p, q, hypotheses-length b)
 
--- a rule of which the check asks nothing
-pub rule-idle : (b : List ℕ) (check r head : ℕ) (v : Bool) → head ≡ ruleIn b r .head → v ≡ idleIn b check head →
-    v ≡ true → false ≡ ruleFault b check r
-unfolding ruleFault
-rule-idle b check r head v e p t =
-    sym (none-any (useFault b check (ruleIn b r .head)) (uses (ruleRead b r))
-    (λ u i. idle-use b check (ruleIn b r .head) u (rw (← e) (sym p ∙ t))))
+      pub rule-found : (v : Bool) (k w h : ℕ) → v ≡ asksOf b aspect head → not v ≡ false → k ≡ limitOf b aspect head →
+          w ≡ hypothesisReach b aspect h → first ≤ h → h < first + many → k < w → true ≡ ruleFault b aspect r
+      unfolding ruleFault above
+      rule-found v k w h a t o s m n g =
+          sym (rw (← e, ← a, not-false v t)
+          (rw e (whole ∙ slice-some noHypothesis (tables b .hypotheses) first (first + many) aboveOf in-table h m n
+          (sym (above-at k h o) ∙ lt-ltb k (hypothesisReach b aspect h) (omega (arith, s))))))
 
-pub rule-asked : (b : List ℕ) (check head : ℕ) (v : Bool) → v ≡ idleIn b check head → v ≡ false →
-    idleIn b check head ≡ false
-rule-asked b check head v p f = sym p ∙ f
+      pub rule-none : (k h : ℕ) → k ≡ limitOf b aspect head → first + many ≤ h →
+          NoneBetween (above b aspect k) first h → false ≡ ruleFault b aspect r
+      unfolding NoneBetween ruleFault
+      rule-none k h o m n =
+          sym (ap (λ (t : Bool). asksOf b aspect (ruleIn b r .head) && t)
+          (whole ∙ slice-none noHypothesis (tables b .hypotheses) first (first + many) aboveOf in-table
+          (λ i l s. sym (above-at k i o) ∙ n i l (omega (arith, s, m)))) ∙
+          and-none (asksOf b aspect (ruleIn b r .head)))
 
 pub hypotheses-in : (b : List ℕ) (r first many : ℕ) → Indexed b → r < countOf b 2 → first ≡ ruleIn b r .first →
     many ≡ ruleIn b r .many → first + many ≤ countOf b 3
@@ -77,64 +190,19 @@ hypotheses-in b r first many I l p q = omega (arith, I .rule r l, p, q)
 pub head-there : (b : List ℕ) (r head : ℕ) → Indexed b → r < countOf b 2 → head ≡ ruleIn b r .head → head < countOf b 1
 head-there b r head I l e = rw e (I .head r l)
 
-pub ruleset hypotheses =
-    (between-start, between-next, rule-idle, rule-asked, rule-found, rule-none, hypotheses-in, head-there)
+pub ruleset hypotheses = (between-start, within, rule-unasked, rule-found, rule-none, hypotheses-in, head-there)
 
 -- the search through the rules
-rules-seek : (b : List ℕ) (check : ℕ) → Seeks (ruleRefusal b check) check 3 (ruleFault b check) (countOf b 2)
+rules-seek : (b : List ℕ) (aspect : Aspect) →
+    Seeks (ruleRefusal b aspect) (numberOf aspect) 3 (ruleFault b aspect) (countOf b 2)
 unfolding ruleRefusal
-rules-seek b check = record { is = refl }
+rules-seek b aspect = record { is = refl }
 
-pub rules-found : (b : List ℕ) (check : ℕ) → Found (ruleRefusal b check) check 3 (ruleFault b check) (countOf b 2)
-rules-found b check = found (rules-seek b check)
+pub rules-found : (b : List ℕ) (aspect : Aspect) →
+    Found (ruleRefusal b aspect) (numberOf aspect) 3 (ruleFault b aspect) (countOf b 2)
+rules-found b aspect = found (rules-seek b aspect)
 
-pub rules-through : (b : List ℕ) (check : ℕ) → Through (ruleRefusal b check) (ruleFault b check) (countOf b 2)
-rules-through b check = through (rules-seek b check)
+pub rules-through : (b : List ℕ) (aspect : Aspect) → Through (ruleRefusal b aspect) (ruleFault b aspect) (countOf b 2)
+rules-through b aspect = through (rules-seek b aspect)
 
 pub ruleset ruled = (turns, rules-found, rules-through)
-
--- the three checks are document 01's
-pub noRead : Rule
-noRead = record { head = 0; body = [] }
-
-module _ (b : List ℕ) (check : ℕ) (fault : ℕ → Rule → Bool) where
-  rules-are : ((r : ℕ) → fault r (ruleRead b r) ≡ ruleFault b check r) →
-      ruleRefusal b check ≡ lowest check 3 fault (reading (tables b) .rules)
-  unfolding ruleRefusal reading
-  rules-are same =
-      sym (lowest-is check 3 fault (ruleFault b check) noRead (map (ruleOf (tables b)) (tables b .rules))
-      (length-map (tables b .rules) (ruleOf (tables b)) ∙ rules-length b)
-      (λ r l.
-      let m : r < length (tables b .rules) = omega (arith, l, rules-length b) in
-      ap (fault r) (map-at (ruleOf (tables b)) noRule noRead (tables b .rules) r m) ∙ same r) .is)
-
-pub heights-same : (b : List ℕ) (r : ℕ) → usesHigher (levelsOf (tables b)) r (ruleRead b r) ≡ ruleFault b 9 r
-unfolding ruleFault ruleOf useFault
-heights-same b r = refl
-
-module _ (b : List ℕ) (v : Verdict) where
-  pub heights-verdict : v ≡ verdictOf (ruleRefusal b 9) →
-      v ≡ verdictOf (refusal9 (reading (tables b) .rules) (levelsOf (tables b)))
-  unfolding refusal9
-  heights-verdict p = p ∙ ap verdictOf (rules-are b 9 (usesHigher (levelsOf (tables b))) (heights-same b))
-
-  pub signs-verdict : v ≡ verdictOf (ruleRefusal b 10) →
-      v ≡ verdictOf (refusal10 (reading (tables b)) (levelsOf (tables b)))
-  unfolding refusal10
-  signs-verdict p =
-      p ∙ ap verdictOf (rules-are b 10 (usesNonPositively (reading (tables b) .kinds) (levelsOf (tables b))) same)
-    where
-      same : (r : ℕ) →
-          usesNonPositively (reading (tables b) .kinds) (levelsOf (tables b)) r (ruleRead b r) ≡ ruleFault b 10 r
-      same r = unfold ruleFault ruleOf useFault in
-          sym (any-and (isCertain (kindRead b (ruleIn b r .head)))
-          (ownNonPositive (levelsOf (tables b)) (ruleRead b r)) (uses (ruleRead b r)))
-
-  pub certainty-verdict : v ≡ verdictOf (ruleRefusal b 11) → v ≡ verdictOf (refusal11 (reading (tables b)))
-  unfolding refusal11
-  certainty-verdict p = p ∙ ap verdictOf (rules-are b 11 (usesUncertain (reading (tables b) .kinds)) same)
-    where
-      same : (r : ℕ) → usesUncertain (reading (tables b) .kinds) r (ruleRead b r) ≡ ruleFault b 11 r
-      same r = unfold ruleFault ruleOf useFault in
-          sym (any-and (isCertain (kindRead b (ruleIn b r .head)))
-          (λ u. not (isCertain (kindRead b (u .atom)))) (uses (ruleRead b r)))

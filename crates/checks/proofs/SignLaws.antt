@@ -1,14 +1,13 @@
--- Which elements a comparison uses positively, by the codes of aggregate, relation and sign: document 01, "Refusals and
+-- Which elements a comparison uses positively, by the codes of aggregate and relation: document 01, "Refusals and
 -- their order", on positive use. Assumes nothing.
 use mathlib.Core.Path.{_≡_, refl}
-use mathlib.Core.Bool.{Bool, false, _&&_}
+use mathlib.Core.Bool.{false, _&&_}
 use Prim.Native.Nat.{ℕ, zero, suc}
 use native.Mathlib.Omega.{arith}
 use lib.Dec.{leb, ltb}
-use borrow.Author.Tests.{le-leb, le-ltb, ne-eqb}
+use borrow.Author.Tests.{le-leb, le-ltb}
 use Rattle.meaning.specs.Reading.{aggregateOf, relationOf}
 use Rattle.meaning.specs.Refusal.{grows, isAbove, isBelow, shrinks}
-use Rattle.checks.specs.Uses.{signPositive}
 
 -- which relations are above and below, by their codes
 above-code : (x : ℕ) → leb 4 x ≡ isAbove (relationOf x)
@@ -53,11 +52,4 @@ module _ (x : ℕ) where
   shrinks-rest (suc (suc (suc zero))) n = refl
   shrinks-rest (suc (suc (suc (suc g)))) n = refl
 
-module _ (g x s : ℕ) (v : Bool) where
-  pub positive-plain : s ≡ 0 → v ≡ grows (aggregateOf g) (relationOf x) → v ≡ signPositive g x s
-  positive-plain e p = rw e p
-
-  pub positive-negated : (s ≡ 0 → ⊥) → v ≡ shrinks (aggregateOf g) (relationOf x) → v ≡ signPositive g x s
-  positive-negated n p = rw (ne-eqb s 0 n) p
-
-pub ruleset signs = (grows-min, grows-rest, shrinks-count, shrinks-rest, positive-plain, positive-negated)
+pub ruleset signs = (grows-min, grows-rest, shrinks-count, shrinks-rest)

@@ -1,14 +1,29 @@
 -- The tests of checks 4 and 5 at a record of any table, and their searches through the tables. Assumes nothing.
-use mathlib.Core.Bool.{Bool, false, cond}
+use mathlib.Core.Bool.{Bool, false}
 use mathlib.Core.List.{List, [], _∷_, map}
 use mathlib.Core.Option.{Option}
 use Prim.Native.Nat.{ℕ, suc}
-use lib.Dec.{eqb}
 use lib.ListN.{getD}
 use Rattle.laws.specs.Lists.{seekFrom}
 use Rattle.meaning.specs.Format.{countOf}
-use Rattle.meaning.specs.Refusal.{Refusal, atRecord, firstOf, strayAtom, strayComparison, strayElement, strayHypothesis, strayRule, unlistedAtom, unlistedComparison, unlistedElement, unlistedHypothesis, unlistedPredicate}
+use Rattle.meaning.specs.Refusal.{
+  Refusal,
+  atRecord,
+  firstOf,
+  strayAtom,
+  strayComparison,
+  strayElement,
+  strayHypothesis,
+  strayRule,
+  unlistedAtom,
+  unlistedComparison,
+  unlistedElement,
+  unlistedHypothesis,
+  unlistedPredicate,
+}
 use Rattle.book.specs.Records.{atomIn, comparisonIn, elementIn, hypothesisIn, predicateIn, ruleIn}
+use Rattle.checks.specs.declared.records.Fault.{Fault}
+use Rattle.checks.specs.declared.records.Fault.the-variants.{Stray, Unlisted}
 
 -- a test that no record meets
 abbrev pub never : ℕ → Bool
@@ -36,18 +51,24 @@ strayTests b =
     ∷ (λ i. strayElement (countOf b 1) i (elementIn b i))
     ∷ []
 
--- the one of the two that the number says
-unfoldable pub faultIn : List ℕ → ℕ → ℕ → ℕ → Bool
-faultIn b check k i = getD (cond (eqb check 4) (unlistedTests b) (strayTests b)) k never i
+-- the one or the other
+unfoldable pub faultIn : List ℕ → Fault → ℕ → ℕ → Bool
+faultIn b Unlisted k i = getD (unlistedTests b) k never i
+faultIn b Stray k i = getD (strayTests b) k never i
+
+-- the number of the check
+abbrev pub numberOf : Fault → ℕ
+numberOf Unlisted = 4
+numberOf Stray = 5
 
 -- the lowest record of the k-th body at fault
-unfoldable pub tableRefusal : List ℕ → ℕ → ℕ → Option Refusal
-tableRefusal b check k = atRecord check (suc k) (seekFrom (faultIn b check k) 0 (countOf b k))
+unfoldable pub bodyRefusal : List ℕ → Fault → ℕ → Option Refusal
+bodyRefusal b fault k = atRecord (numberOf fault) (suc k) (seekFrom (faultIn b fault k) 0 (countOf b k))
 
 -- the bodies in table order
 abbrev pub bodies : List ℕ
 bodies = 0 ∷ 1 ∷ 2 ∷ 3 ∷ 4 ∷ 5 ∷ []
 
 -- the first body with a record at fault
-unfoldable pub tablesRefusal : List ℕ → ℕ → Option Refusal
-tablesRefusal b check = firstOf (map (tableRefusal b check) bodies)
+unfoldable pub bodiesRefusal : List ℕ → Fault → Option Refusal
+bodiesRefusal b fault = firstOf (map (bodyRefusal b fault) bodies)

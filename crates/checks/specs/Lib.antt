@@ -7,5 +7,3 @@ pub mod Faults
 pub mod Marks
 -- checks 9 to 11, use by use
 pub mod Uses
--- and by the marks of comparisons
-pub mod Shares

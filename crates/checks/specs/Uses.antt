@@ -1,54 +1,74 @@
--- Checks 9 to 11 at one use of an atom by a rule. Assumes nothing.
-use mathlib.Core.Bool.{Bool, not, cond, _&&_}
-use mathlib.Core.List.{List}
+-- Checks 9 to 11 as one comparison of numbers. A use that the check looks at reaches the level above its atom's, any
+-- other 0; a rule is at fault if one of its uses reaches above the limit that its head sets. In check 10 this is what
+-- document 01 says once 9 has passed: no atom that a rule uses is then above its head's level. Assumes nothing.
+use mathlib.Core.Path.{_≡_}
+use mathlib.Core.Bool.{Bool, true, cond, not, _&&_}
+use mathlib.Core.List.{List, [], _∷_}
 use mathlib.Core.Option.{Option}
-use Prim.Native.Nat.{ℕ}
+use Prim.Native.Nat.{ℕ, _+_, _<_, max}
 use lib.Dec.{eqb, ltb}
+use lib.ListN.{length, getD}
 use Rattle.laws.specs.Lists.{any, seekFrom}
-use Rattle.meaning.specs.Format.{countOf}
-use Rattle.meaning.specs.Reading.{Hypothesis, aggregateOf, isCertain, relationOf}
-use Rattle.meaning.specs.Refusal.{Refusal, Use, atRecord, grows, shrinks, uses, usesOf}
+use Rattle.meaning.specs.Format.{ElementRecord, countOf}
+use Rattle.meaning.specs.Reading.{Hypothesis, isCertain}
+use Rattle.meaning.specs.Refusal.{Refusal, Use, atRecord, uses, usesOf}
 use Rattle.book.specs.Records.{comparisonRead, hypothesisRead, kindRead, levelRead, ruleIn, ruleRead}
+use Rattle.checks.specs.declared.reaches.Aspect.{Aspect}
+use Rattle.checks.specs.declared.reaches.Aspect.the-variants.{Certainty, Height, Sign}
 
--- 9: the atom is of a higher level than the head
-abbrev pub higher : List ℕ → ℕ → Use → Bool
-higher b head u = ltb (levelRead b head) (levelRead b (u .atom))
+abbrev pub numberOf : Aspect → ℕ
+numberOf Height = 9
+numberOf Sign = 10
+numberOf Certainty = 11
 
--- 10: the head is certain, the atom of its own level and used non-positively
-abbrev pub nonPositive : List ℕ → ℕ → Use → Bool
-nonPositive b head u =
-    isCertain (kindRead b head) && (eqb (levelRead b head) (levelRead b (u .atom)) && not (u .positive))
+-- 9 looks at every use, 10 at the non-positive ones, 11 at those of uncertain atoms
+abbrev pub looksAt : List ℕ → Aspect → Use → Bool
+looksAt b Height u = true
+looksAt b Sign u = not (u .positive)
+looksAt b Certainty u = not (isCertain (kindRead b (u .atom)))
 
--- 11: the head is certain and the atom is not
-abbrev pub uncertain : List ℕ → ℕ → Use → Bool
-uncertain b head u = isCertain (kindRead b head) && not (isCertain (kindRead b (u .atom)))
+unfoldable pub reachOf : List ℕ → Aspect → Use → ℕ
+reachOf b aspect u = cond (looksAt b aspect u) (levelRead b (u .atom) + 1) 0
 
--- the one of the three that the number says
-unfoldable pub useFault : List ℕ → ℕ → ℕ → Use → Bool
-useFault b check head u =
-    cond (eqb check 9) (higher b head u) (cond (eqb check 10) (nonPositive b head u) (uncertain b head u))
+-- the use of an element, by whether sign 0 and sign 1 are positive
+abbrev pub usedAs : Bool → Bool → ElementRecord → Use
+usedAs plain negated x = record { atom = x .atom; positive = cond (eqb (x .sign) 0) plain negated }
 
--- the check asks nothing of rules with this head: 10 and 11 concern certain heads alone
-abbrev pub idleIn : List ℕ → ℕ → ℕ → Bool
-idleIn b check head = not (eqb check 9) && not (isCertain (kindRead b head))
+-- the highest of several
+unfoldable pub highest : List ℕ → Aspect → List Use → ℕ
+highest b aspect [] = 0
+highest b aspect (u ∷ us) = max (reachOf b aspect u) (highest b aspect us)
 
--- an element of this sign in a comparison of these codes is used positively
-abbrev pub signPositive : ℕ → ℕ → ℕ → Bool
-signPositive aggregate relation sign =
-    cond (eqb sign 0)
-    (grows (aggregateOf aggregate) (relationOf relation))
-    (shrinks (aggregateOf aggregate) (relationOf relation))
+-- of what comparison c uses, and hypothesis h
+unfoldable pub comparisonReach : List ℕ → Aspect → ℕ → ℕ
+comparisonReach b aspect c = highest b aspect (usesOf (Hypothesis.comparison (comparisonRead b c)))
 
--- some use by comparison c is at fault, by hypothesis h, by rule r
-unfoldable pub comparisonFault : List ℕ → ℕ → ℕ → ℕ → Bool
-comparisonFault b check head c = any (useFault b check head) (usesOf (Hypothesis.comparison (comparisonRead b c)))
+unfoldable pub hypothesisReach : List ℕ → Aspect → ℕ → ℕ
+hypothesisReach b aspect h = highest b aspect (usesOf (hypothesisRead b h))
 
-unfoldable pub hypothesisFault : List ℕ → ℕ → ℕ → ℕ → Bool
-hypothesisFault b check head h = any (useFault b check head) (usesOf (hypothesisRead b h))
+-- those of the first n comparisons
+pub record Reaches (b : List ℕ) (aspect : Aspect) (n : ℕ) (found : List ℕ) : Type 0 where
+  pub room : length found ≡ 512
+  pub at : (c : ℕ) → c < n → getD found c 0 ≡ comparisonReach b aspect c
 
-unfoldable pub ruleFault : List ℕ → ℕ → ℕ → Bool
-ruleFault b check r = any (useFault b check (ruleIn b r .head)) (uses (ruleRead b r))
+-- 10 and 11 ask nothing of rules whose head is not certain
+abbrev pub asksOf : List ℕ → Aspect → ℕ → Bool
+asksOf b Height head = true
+asksOf b Sign head = isCertain (kindRead b head)
+asksOf b Certainty head = isCertain (kindRead b head)
+
+-- in 9 a use may reach as high as the head, in 10 below it, in 11 nowhere
+abbrev pub limitOf : List ℕ → Aspect → ℕ → ℕ
+limitOf b Height head = levelRead b head + 1
+limitOf b Sign head = levelRead b head
+limitOf b Certainty head = 0
+
+-- some use of rule r reaches above the limit
+unfoldable pub ruleFault : List ℕ → Aspect → ℕ → Bool
+ruleFault b aspect r =
+    asksOf b aspect (ruleIn b r .head)
+    && any (λ u. ltb (limitOf b aspect (ruleIn b r .head)) (reachOf b aspect u)) (uses (ruleRead b r))
 
 -- the lowest such rule
-unfoldable pub ruleRefusal : List ℕ → ℕ → Option Refusal
-ruleRefusal b check = atRecord check 3 (seekFrom (ruleFault b check) 0 (countOf b 2))
+unfoldable pub ruleRefusal : List ℕ → Aspect → Option Refusal
+ruleRefusal b aspect = atRecord (numberOf aspect) 3 (seekFrom (ruleFault b aspect) 0 (countOf b 2))

@@ -2,8 +2,15 @@
 ghost use mathlib.Core.Path.{_≡_};
 ghost use mathlib.Core.List.{_++_};
 ghost use Rattle.meaning.specs.Format.{tables};
-ghost use Rattle.meaning.specs.Refusal.{codeRefusals, frameRefusals, levelRefusals, recordRefusals, refusal, roomRefusals};
-ghost use Rattle.book.specs.Framed.{Framed, Indexed};
+ghost use Rattle.meaning.specs.Refusal.{
+  codeRefusals,
+  frameRefusals,
+  levelRefusals,
+  recordRefusals,
+  refusal,
+  roomRefusals,
+};
+ghost use Rattle.book.specs.Framed.{Framed, Ready};
 ghost use Rattle.checks.specs.Verdicts.{verdictAmong, verdictOf};
 use crate::frame::check_frame;
 use crate::given::check_given;
@@ -51,7 +58,7 @@ fn check_tables(book: &[u8]) -> Verdict
 
 // 8 to 11: the levels.
 fn check_levels(book: &[u8]) -> Verdict
-    requires { ⌜ Framed (now book) × Indexed (now book) ⌝ }
+    requires { ⌜ Ready (now book) ⌝ }
     ensures { λ r. ⌜ r ≡ verdictAmong (levelRefusals (tables (now (book .entry)))) ⌝ }
 {
     let mixture = check_mixture(book);

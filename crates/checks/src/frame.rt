@@ -6,8 +6,8 @@ ghost use Rattle.meaning.specs.Format.{contents, limits};
 ghost use Rattle.meaning.specs.Refusal.{frameRefusals, refusal1, refusal2, refusal3};
 ghost use Rattle.checks.specs.Verdicts.{verdictAmong, verdictOf};
 use crate::verdict::Verdict;
+use book::casts::narrow;
 use book::readers::count_of;
-use book::readers::narrow;
 use book::readers::offset_of;
 use book::readers::size_of;
 

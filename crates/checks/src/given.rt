@@ -4,19 +4,19 @@ ghost use Prim.Native.Nat.{_<_};
 ghost use Rattle.meaning.specs.Format.{countOf, tables};
 ghost use Rattle.meaning.specs.Reading.{reading};
 ghost use Rattle.meaning.specs.Refusal.{refusal7};
-ghost use Rattle.book.specs.Framed.{Framed, Indexed};
+ghost use Rattle.book.specs.Framed.{Ready};
 ghost use Rattle.checks.specs.Marks.{Marked, wrongIn};
 ghost use Rattle.checks.specs.Verdicts.{verdictOf};
 use crate::verdict::Verdict;
 use book::atoms::kind_of;
+use book::casts::short;
 use book::fields::atom_given;
 use book::fields::rule_head;
 use book::readers::count_of;
-use book::readers::short;
 
 // One mark for each atom: 1 if a rule concludes it, else 0.
 fn heads(book: &[u8]) -> [u8; 2048]
-    requires { ⌜ Framed (now book) × Indexed (now book) ⌝ }
+    requires { ⌜ Ready (now book) ⌝ }
     ensures { λ r. ⌜ Marked (now (book .entry)) r ⌝ }
 {
     let n = count_of(book, 2);
@@ -32,7 +32,7 @@ fn heads(book: &[u8]) -> [u8; 2048]
 
 // 7, at one atom.
 fn wrong(book: &[u8], marks: &[u8], a: usize) -> bool
-    requires { ⌜ Framed (now book) × Indexed (now book) × Marked (now book) (now marks) × (a < countOf (now book) 1) ⌝ }
+    requires { ⌜ Ready (now book) × Marked (now book) (now marks) × (a < countOf (now book) 1) ⌝ }
     ensures { λ r. ⌜ r ≡ wrongIn (now (book .entry)) a ⌝ }
 {
     let given = atom_given(book, a);
@@ -41,7 +41,7 @@ fn wrong(book: &[u8], marks: &[u8], a: usize) -> bool
 
 // 7: an answer given to an atom that isn't open, or that a rule concludes.
 pub(crate) fn check_given(book: &[u8]) -> Verdict
-    requires { ⌜ Framed (now book) × Indexed (now book) ⌝ }
+    requires { ⌜ Ready (now book) ⌝ }
     ensures { λ r. ⌜ r ≡ verdictOf (let t = tables (now (book .entry)) in refusal7 (reading t) (t .atoms)) ⌝ }
 {
     let marks = heads(book);

@@ -8,10 +8,10 @@ ghost use Rattle.book.specs.Framed.{Framed};
 ghost use Rattle.book.specs.Records.{predicateIn};
 ghost use Rattle.checks.specs.Verdicts.{verdictOf};
 use crate::verdict::Verdict;
+use book::casts::short;
 use book::fields::predicate_kind;
 use book::fields::predicate_level;
 use book::readers::count_of;
-use book::readers::short;
 
 // Code 0 is certain, every other uncertain.
 fn certain(book: &[u8], i: usize) -> bool

@@ -3,20 +3,20 @@
 ghost use mathlib.Core.Path.{_≡_};
 ghost use Rattle.meaning.specs.Format.{tables};
 ghost use Rattle.meaning.specs.Refusal.{refusal6};
-ghost use Rattle.book.specs.Framed.{Framed, Indexed};
+ghost use Rattle.book.specs.Framed.{Ready};
 ghost use Rattle.checks.specs.Verdicts.{verdictOf};
 use crate::numbers::larger;
 use crate::verdict::Verdict;
+use book::casts::short;
+use book::casts::wide;
 use book::fields::comparison_first;
 use book::fields::comparison_many;
 use book::fields::element_atom;
 use book::readers::count_of;
-use book::readers::short;
-use book::readers::wide;
 
 // 6: comparisons, elements and later elements, left at the first pair. The comparison reached is then the place.
 pub(crate) fn check_pairs(book: &[u8]) -> Verdict
-    requires { ⌜ Framed (now book) × Indexed (now book) ⌝ }
+    requires { ⌜ Ready (now book) ⌝ }
     ensures { λ r. ⌜ r ≡ verdictOf (refusal6 (tables (now (book .entry)))) ⌝ }
 {
     let n = count_of(book, 4);

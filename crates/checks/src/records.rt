@@ -6,9 +6,11 @@ ghost use Prim.Native.Nat.{_<_};
 ghost use Rattle.meaning.specs.Format.{countOf, tables};
 ghost use Rattle.meaning.specs.Refusal.{codeRefusals, refusal5};
 ghost use Rattle.book.specs.Framed.{Framed};
-ghost use Rattle.checks.specs.Faults.{faultIn, tableRefusal, tablesRefusal};
+ghost use Rattle.checks.specs.Faults.{bodiesRefusal, bodyRefusal, faultIn, numberOf};
 ghost use Rattle.checks.specs.Verdicts.{verdictAmong, verdictOf};
 use crate::verdict::Verdict;
+use book::casts::narrow;
+use book::casts::short;
 use book::fields::atom_given;
 use book::fields::atom_predicate;
 use book::fields::comparison_aggregate;
@@ -25,13 +27,17 @@ use book::fields::rule_first;
 use book::fields::rule_head;
 use book::fields::rule_many;
 use book::readers::count_of;
-use book::readers::narrow;
-use book::readers::short;
+
+// What can be wrong with a record by itself: a code that is not listed, or an index that is not in its table.
+pub(crate) enum Fault {
+    Unlisted,
+    Stray,
+}
 
 // 4, at record i of the k-th body.
 fn unlisted(book: &[u8], k: usize, i: usize) -> bool
     requires { ⌜ Framed (now book) × (k < 6) × (i < countOf (now book) k) ⌝ }
-    ensures { λ r. ⌜ r ≡ faultIn (now (book .entry)) 4 k i ⌝ }
+    ensures { λ r. ⌜ r ≡ faultIn (now (book .entry)) Fault.Unlisted k i ⌝ }
 {
     match k {
         0 => (3 < predicate_kind(book, i)) | (127 < predicate_level(book, i)),
@@ -58,7 +64,7 @@ fn among(book: &[u8], sort: usize) -> usize
 // 5, likewise. No sum of two numbers of 16 bits wraps.
 fn stray(book: &[u8], k: usize, i: usize) -> bool
     requires { ⌜ Framed (now book) × (k < 6) × (i < countOf (now book) k) ⌝ }
-    ensures { λ r. ⌜ r ≡ faultIn (now (book .entry)) 5 k i ⌝ }
+    ensures { λ r. ⌜ r ≡ faultIn (now (book .entry)) Fault.Stray k i ⌝ }
 {
     match k {
         1 => count_of(book, 0) <= atom_predicate(book, i),
@@ -73,28 +79,37 @@ fn stray(book: &[u8], k: usize, i: usize) -> bool
     }
 }
 
-fn fault(book: &[u8], check: usize, k: usize, i: usize) -> bool
+fn at_fault(book: &[u8], fault: Fault, k: usize, i: usize) -> bool
     requires { ⌜ Framed (now book) × (k < 6) × (i < countOf (now book) k) ⌝ }
-    ensures { λ r. ⌜ r ≡ faultIn (now (book .entry)) check k i ⌝ }
+    ensures { λ r. ⌜ r ≡ faultIn (now (book .entry)) fault k i ⌝ }
 {
-    if check == 4 {
-        unlisted(book, k, i)
-    } else {
-        stray(book, k, i)
+    match fault {
+        Fault::Unlisted => unlisted(book, k, i),
+        Fault::Stray => stray(book, k, i),
+    }
+}
+
+// The number of the check.
+fn number_of(fault: Fault) -> u8
+    ensures { λ r. ⌜ r ≡ numberOf fault ⌝ }
+{
+    match fault {
+        Fault::Unlisted => 4,
+        Fault::Stray => 5,
     }
 }
 
 // The lowest record of the k-th body that is at fault.
-fn check_table(book: &[u8], check: usize, k: usize) -> Verdict
-    requires { ⌜ Framed (now book) × (k < 6) × (check < 256) ⌝ }
-    ensures { λ r. ⌜ r ≡ verdictOf (tableRefusal (now (book .entry)) check k) ⌝ }
+fn check_body(book: &[u8], fault: Fault, k: usize) -> Verdict
+    requires { ⌜ Framed (now book) × (k < 6) ⌝ }
+    ensures { λ r. ⌜ r ≡ verdictOf (bodyRefusal (now (book .entry)) fault k) ⌝ }
 {
     let n = count_of(book, k);
     let mut i = 0;
     while i < n {
-        if fault(book, check, k, i) {
+        if at_fault(book, fault, k, i) {
             return Verdict::Refused {
-                number: narrow(check),
+                number: number_of(fault),
                 table: narrow(k + 1),
                 record: short(i),
             };
@@ -104,14 +119,14 @@ fn check_table(book: &[u8], check: usize, k: usize) -> Verdict
     Verdict::Passed
 }
 
-// The first table with a record at fault.
-fn check_tables(book: &[u8], check: usize) -> Verdict
-    requires { ⌜ Framed (now book) × (check < 256) ⌝ }
-    ensures { λ r. ⌜ r ≡ verdictOf (tablesRefusal (now (book .entry)) check) ⌝ }
+// The first body with a record at fault.
+fn check_bodies(book: &[u8], fault: Fault) -> Verdict
+    requires { ⌜ Framed (now book) ⌝ }
+    ensures { λ r. ⌜ r ≡ verdictOf (bodiesRefusal (now (book .entry)) fault) ⌝ }
 {
     let mut k = 0;
     while k < 6 {
-        let v = check_table(book, check, k);
+        let v = check_body(book, fault, k);
         let Verdict::Passed = v else {
             return v;
         };
@@ -125,7 +140,7 @@ pub(crate) fn check_codes(book: &[u8]) -> Verdict
     requires { ⌜ Framed (now book) ⌝ }
     ensures { λ r. ⌜ r ≡ verdictAmong (codeRefusals (tables (now (book .entry)))) ⌝ }
 {
-    check_tables(book, 4)
+    check_bodies(book, Fault::Unlisted)
 }
 
 // 5: an index that is not in its table, or a range that ends past it.
@@ -133,5 +148,5 @@ pub(crate) fn check_indices(book: &[u8]) -> Verdict
     requires { ⌜ Framed (now book) ⌝ }
     ensures { λ r. ⌜ r ≡ verdictOf (refusal5 (tables (now (book .entry)))) ⌝ }
 {
-    check_tables(book, 5)
+    check_bodies(book, Fault::Stray)
 }

@@ -8,13 +8,8 @@ use Rattle.theory.specs.Answers.{wipe}
 use Rattle.meaning.specs.Format.{tables}
 use Rattle.meaning.specs.Reading.{Reading, levelsOf, reading, truthOf}
 use Rattle.meaning.specs.Model.{membersOf, unfounded}
-use Rattle.book.specs.Framed.{Framed, Indexed}
+pub use Rattle.book.specs.Framed.{Ready}
 use Rattle.judge.specs.Held.{held}
-
--- a book that can be worked on
-pub record Ready (b : List ℕ) : Type 0 where
-  pub framed : Framed b
-  pub indexed : Indexed b
 
 -- its rules as read, and the level of each atom
 abbrev pub rulesIn : List ℕ → Reading

@@ -15,10 +15,10 @@ ghost use Rattle.book.specs.Records.{ruleIn};
 ghost use Rattle.steps.specs.Work.{Ready};
 ghost use Rattle.steps.specs.Strike.{Counted, Ended, Ends, Follows, Lags, falses, onlyAssumed, strikesAt};
 use crate::fails::supports;
+use book::casts::short;
+use book::casts::wide;
 use book::fields::rule_head;
 use book::readers::count_of;
-use book::readers::short;
-use book::readers::wide;
 use judge::literal::answer;
 use judge::literal::set_answer;
 

@@ -1,0 +1,11 @@
+-- `signs::grows_in` meets its contract: sum never, min with the relations below, count and max with those above.
+-- Assumes nothing.
+use borrow.Author.Needs.{needs}
+use Rattle.checks.proofs.SignLaws.{signs}
+use Rattle.checks.proofs.signs.grows_in.Statement.{statement}
+use Rattle.checks.proofs.signs.grows_in.Tie as tie
+
+pub grows-in-spec : {M : Type 1} → statement M
+grows-in-spec =
+    tie.close
+    (tie.spec (λ c. search (needs, signs)) (λ c. search (needs, signs)) (λ c. search (needs, signs)))

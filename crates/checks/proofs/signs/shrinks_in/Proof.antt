@@ -1,0 +1,10 @@
+-- `signs::shrinks_in` meets its contract: the relations below, for count alone. Assumes nothing.
+use borrow.Author.Needs.{needs}
+use Rattle.checks.proofs.SignLaws.{signs}
+use Rattle.checks.proofs.signs.shrinks_in.Statement.{statement}
+use Rattle.checks.proofs.signs.shrinks_in.Tie as tie
+
+pub shrinks-in-spec : {M : Type 1} → statement M
+shrinks-in-spec =
+    tie.close
+    (tie.spec (λ c. search (needs, signs)) (λ c. search (needs, signs)))
