@@ -5,8 +5,9 @@ pub mod VerdictLaws
 pub mod LowestLaws
 -- checks 1 to 3
 pub mod FrameLaws
--- checks 4 and 5
+-- checks 4 and 5: a record, and the bodies
 pub mod RecordLaws
+pub mod BodyLaws
 -- check 6: what was compared, and the search
 pub mod SeenLaws
 pub mod PairLaws
@@ -18,7 +19,8 @@ pub mod MixtureLaws
 pub mod SignLaws
 -- how high uses reach, and the highest of a comparison
 pub mod ReachLaws
--- one rule, and all of them
+-- one hypothesis; one rule, and all of them
+pub mod HypothesisLaws
 pub mod RuleLaws
 -- a limit on the reach is what document 01 says
 pub mod LimitLaws

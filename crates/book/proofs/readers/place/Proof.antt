@@ -4,14 +4,8 @@ use Rattle.book.proofs.Places.{placed, product-fits, sum-fits}
 use Rattle.book.proofs.readers.place.Statement.{statement}
 use Rattle.book.proofs.readers.place.Tie as tie
 
-mul-result : tie.Need-mul-result
-mul-result c = search (needs, product-fits)
-
-add-result : tie.Need-add-result
-add-result c = search (needs, sum-fits)
-
-returns : tie.Need-returns
-returns c = search (needs, placed)
-
 pub place-spec : {M : Type 1} → statement M
-place-spec = tie.close (tie.spec (λ c κs. search needs) (λ c κs. search needs) mul-result add-result returns)
+place-spec =
+    tie.close
+    (tie.spec (λ c κs. search needs) (λ c κs. search needs) (λ c. search (needs, product-fits))
+    (λ c. search (needs, sum-fits)) (λ c. search (needs, placed)))

@@ -1,7 +1,7 @@
 -- `records::check_bodies` meets its contract: the tables passed so far have no record at fault. Assumes nothing.
 use Prim.Native.Nat.{_-_, _≤_}
 use borrow.Author.Needs.{needs}
-use Rattle.checks.proofs.RecordLaws.{PassedTo, onward}
+use Rattle.checks.proofs.BodyLaws.{PassedTo, onward}
 use Rattle.checks.proofs.records.check_bodies.Statement.{statement}
 use Rattle.checks.proofs.records.check_bodies.Tie as tie
 

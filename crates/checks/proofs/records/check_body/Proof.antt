@@ -3,7 +3,7 @@ use Prim.Native.Nat.{_-_, _≤_}
 use borrow.Author.Needs.{needs}
 use Rattle.laws.proofs.Searches.{NoneTo}
 use Rattle.checks.specs.Faults.{faultIn}
-use Rattle.checks.proofs.RecordLaws.{scanned}
+use Rattle.checks.proofs.BodyLaws.{scanned}
 use Rattle.checks.proofs.records.check_body.Statement.{statement}
 use Rattle.checks.proofs.records.check_body.Tie as tie
 

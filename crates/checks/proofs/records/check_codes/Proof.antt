@@ -1,6 +1,6 @@
 -- `records::check_codes` meets its contract: the search through all tables is document 01's. Assumes nothing.
 use borrow.Author.Needs.{needs}
-use Rattle.checks.proofs.RecordLaws.{codes-verdict}
+use Rattle.checks.proofs.BodyLaws.{codes-verdict}
 use Rattle.checks.proofs.records.check_codes.Statement.{statement}
 use Rattle.checks.proofs.records.check_codes.Tie as tie
 

@@ -1,6 +1,6 @@
 -- `records::check_indices` meets its contract: the search through all tables is document 01's. Assumes nothing.
 use borrow.Author.Needs.{needs}
-use Rattle.checks.proofs.RecordLaws.{indices-verdict}
+use Rattle.checks.proofs.BodyLaws.{indices-verdict}
 use Rattle.checks.proofs.records.check_indices.Statement.{statement}
 use Rattle.checks.proofs.records.check_indices.Tie as tie
 

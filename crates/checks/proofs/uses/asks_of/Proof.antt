@@ -1,6 +1,6 @@
 -- `uses::asks_of` meets its contract, check by check. Assumes nothing.
 use borrow.Author.Needs.{needs}
-use Rattle.checks.proofs.RuleLaws.{asked}
+use Rattle.checks.proofs.HypothesisLaws.{asked}
 use Rattle.checks.proofs.uses.asks_of.Statement.{statement}
 use Rattle.checks.proofs.uses.asks_of.Tie as tie
 

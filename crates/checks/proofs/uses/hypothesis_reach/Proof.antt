@@ -1,6 +1,6 @@
 -- `uses::hypothesis_reach` meets its contract, by the sort. Assumes nothing.
 use borrow.Author.Needs.{needs}
-use Rattle.checks.proofs.RuleLaws.{sorts}
+use Rattle.checks.proofs.HypothesisLaws.{sorts}
 use Rattle.checks.proofs.uses.hypothesis_reach.Statement.{statement}
 use Rattle.checks.proofs.uses.hypothesis_reach.Tie as tie
 

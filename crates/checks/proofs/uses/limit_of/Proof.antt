@@ -1,6 +1,6 @@
 -- `uses::limit_of` meets its contract, check by check. Assumes nothing.
 use borrow.Author.Needs.{needs}
-use Rattle.checks.proofs.RuleLaws.{limits}
+use Rattle.checks.proofs.HypothesisLaws.{limits}
 use Rattle.checks.proofs.uses.limit_of.Statement.{statement}
 use Rattle.checks.proofs.uses.limit_of.Tie as tie
 
