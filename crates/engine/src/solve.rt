@@ -9,30 +9,21 @@ ghost use Rattle.engine.specs.Turns.{Levelled};
 use crate::levels::busy;
 use crate::levels::close_level;
 use crate::levels::given_answers;
-use crate::rounds::Work;
 use crate::rounds::rounds;
 use book::readers::count_of;
+use steps::order::empty_order;
 
 // One level, and its closing if it is certain.
-fn work_level(book: &[u8], level: usize, before: [u8; 2048], order: &mut [u16], used: usize) -> Work
-    requires { ⌜ Ready (now book) ⌝ }
-    ensures { λ r. ⌜ Levelled (now (book .entry)) level (take (countOf (now (book .entry)) 1) before) (r .answers) ⌝ }
+fn work_level(book: &[u8], level: usize, before: [u8; 2048], order: &mut [u16]) -> [u8; 2048]
+    requires { ⌜ Ready (now book) × (length (now order) ≡ 2049) ⌝ }
+    ensures { λ r. ⌜ Levelled (now (book .entry)) level (take (countOf (now (book .entry)) 1) before) r ⌝ }
 {
     let n = count_of(book, 1);
     if busy(book, &before[..n], level) {
-        let rested = rounds(book, level, before, order, used);
-        let answers = rested.answers;
-        let end = rested.used;
-        let closed = close_level(book, &answers[..n], level);
-        return Work {
-            answers: closed,
-            used: end,
-        };
+        let rested = rounds(book, level, before, order);
+        return close_level(book, &rested[..n], level);
     }
-    Work {
-        answers: before,
-        used,
-    }
+    before
 }
 
 // The model of a book.
@@ -42,13 +33,11 @@ pub fn solve(book: &[u8]) -> [u8; 2048]
         (now (book .entry))) ⌝ }
 {
     let mut answers = given_answers(book);
-    let mut order = [0u16; 2048];
-    let mut end = 0;
+    let mut order = empty_order();
     let mut level = 0;
     while level < 128 {
-        let worked = work_level(book, level, answers, &mut order, end);
-        answers = worked.answers;
-        end = worked.used;
+        let worked = work_level(book, level, answers, &mut order);
+        answers = worked;
         level += 1;
     }
     answers

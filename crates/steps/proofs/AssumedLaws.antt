@@ -8,7 +8,7 @@ use Prim.Native.Nat.{ℕ, _<_, _≤_}
 use native.Mathlib.Decide.{decLt}
 use native.Mathlib.Omega.{arith}
 use lib.Dec.{eqb}
-use lib.ListN.{length, length-map, length-set, set}
+use lib.ListN.{length, getD, length-map, length-set, set}
 use borrow.Author.Tests.{eq-eqb, eqb-false, eqb-true, not-false}
 use Rattle.laws.specs.Lists.{In}
 use Rattle.laws.proofs.Entries.{getD-in, in-getD, in-map, map-in}
@@ -17,7 +17,7 @@ use Rattle.laws.proofs.Tests.{and-all, and-fails, and-none, both, by-test, left
 use Rattle.theory.specs.Truth.{Truth, isFalse, isTrue, isUndefined, _≼_}
 use Rattle.theory.specs.Answers.{Answers, Atoms, NoneTrue, _⊑_, wipe}
 use Rattle.theory.proofs.Truth.{by-answer, false-of, true-of, undefined-of, undefined-true, undefined-false}
-use Rattle.theory.proofs.Answers.{⊑-refl, ⊑-trans, wipe-in}
+use Rattle.theory.proofs.Answers.{⊑-refl, wipe-in}
 use Rattle.meaning.specs.Format.{countOf, noRule, ruleAt, tables}
 use Rattle.meaning.specs.Reading.{Hypothesis, Kind, Rule, isClosed, reading, ruleOf, truthOf}
 use Rattle.meaning.specs.Truth.{bodyTruth, hypothesisTruth}
@@ -33,50 +33,50 @@ use Rattle.book.specs.Records.{kindRead, levelRead, ruleIn, ruleRead}
 use Rattle.judge.specs.Held.{held}
 use Rattle.steps.specs.Work.{Exact, answersIn, levelsIn, rulesIn}
 use Rattle.steps.specs.Due.{Due, dueIn, pendingIn, stepsOf}
-use Rattle.steps.specs.Strike.{Assumed, Counted, Follows, candidateIn, onlyAssumed, strikesAt}
+use Rattle.steps.specs.Strike.{Assumed, candidateIn, onlyAssumed, strikesAt}
 use Rattle.steps.proofs.DueLaws.{steps-three}
 use Rattle.steps.proofs.WorkLaws.{read-held, held-other, held-out, held-same}
 
 -- the greatest unfounded set, at the answers held in memory
-module _ (b : List ℕ) (n : ℕ) (L : List ℕ) (size : length L ≡ countOf b 1) where
+module _ (b : List ℕ) (n : ℕ) (A : List ℕ) (size : length A ≡ countOf b 1) where
   abbrev found : Atoms
-  found = membersOf (unfounded (rulesIn b) (levelsIn b) n (answersIn L))
+  found = membersOf (unfounded (rulesIn b) (levelsIn b) n (answersIn A))
 
-  fits : length (answersIn L) ≡ length (rulesIn b .kinds)
-  fits = length-map L truthOf ∙ size ∙ sym (atoms-length b) ∙ sym (kinds-length (tables b))
+  fits : length (answersIn A) ≡ length (rulesIn b .kinds)
+  fits = length-map A truthOf ∙ size ∙ sym (atoms-length b) ∙ sym (kinds-length (tables b))
 
-  found-unfounded : Unfounded (rulesIn b) (levelsIn b) n found (held L)
+  found-unfounded : Unfounded (rulesIn b) (levelsIn b) n found (held A)
   found-unfounded =
-      subst (Unfounded (rulesIn b) (levelsIn b) n found) (read-held L)
-      (is-unfounded (rulesIn b) (levelsIn b) n (answersIn L) fits)
+      subst (Unfounded (rulesIn b) (levelsIn b) n found) (read-held A)
+      (is-unfounded (rulesIn b) (levelsIn b) n (answersIn A) fits)
 
-  found-greatest : (U : Atoms) → Unfounded (rulesIn b) (levelsIn b) n U (held L) → (a : ℕ) → So (U a) → So (found a)
+  found-greatest : (U : Atoms) → Unfounded (rulesIn b) (levelsIn b) n U (held A) → (a : ℕ) → So (U a) → So (found a)
   found-greatest U u =
-      greatest (rulesIn b) (levelsIn b) n (answersIn L) fits U
-      (subst (Unfounded (rulesIn b) (levelsIn b) n U) (sym (read-held L)) u)
+      greatest (rulesIn b) (levelsIn b) n (answersIn A) fits U
+      (subst (Unfounded (rulesIn b) (levelsIn b) n U) (sym (read-held A)) u)
 
 -- what a candidate is
-module _ (b : List ℕ) (n : ℕ) (L : List ℕ) (a : ℕ) where
+module _ (b : List ℕ) (n : ℕ) (A : List ℕ) (a : ℕ) where
   abbrev here : Bool
   here = isClosed (kindRead b a) && eqb (levelRead b a) n
 
-  candidate-of : So (candidateIn b n L a) →
-      (kindRead b a ≡ Kind.closed) × (levelRead b a ≡ n) × (held L a ≡ Truth.true → ⊥)
+  candidate-of : So (candidateIn b n A a) →
+      (kindRead b a ≡ Kind.closed) × (levelRead b a ≡ n) × (held A a ≡ Truth.true → ⊥)
   unfolding candidateIn
   candidate-of c = let k = left here _ c in (
     closed-of (kindRead b a) (left (isClosed (kindRead b a)) _ k),
     eqb-true (levelRead b a) n (right (isClosed (kindRead b a)) _ k),
-    λ t. not-of (isTrue (held L a)) (right here _ c) (ap isTrue t),
+    λ t. not-of (isTrue (held A a)) (right here _ c) (ap isTrue t),
   )
 
-  of-candidate : kindRead b a ≡ Kind.closed → levelRead b a ≡ n → (held L a ≡ Truth.true → ⊥) →
-      So (candidateIn b n L a)
+  of-candidate : kindRead b a ≡ Kind.closed → levelRead b a ≡ n → (held A a ≡ Truth.true → ⊥) →
+      So (candidateIn b n A a)
   unfolding candidateIn
   of-candidate k l t =
-      both (both (ap isClosed k) (eq-eqb (levelRead b a) n l)) (of-not (isTrue (held L a)) (λ e. t (true-of _ e)))
+      both (both (ap isClosed k) (eq-eqb (levelRead b a) n l)) (of-not (isTrue (held A a)) (λ e. t (true-of _ e)))
 
   -- past the table no atom is one
-  candidate-out : countOf b 1 ≤ a → candidateIn b n L a ≡ false
+  candidate-out : countOf b 1 ≤ a → candidateIn b n A a ≡ false
   unfolding candidateIn
   candidate-out l =
       let past : length (rulesIn b .kinds) ≤ a = omega (arith, l, kinds-length (tables b), atoms-length b) in
@@ -84,19 +84,19 @@ module _ (b : List ℕ) (n : ℕ) (L : List ℕ) (a : ℕ) where
       rw o
 
 -- at the start all candidates are assumed
-pub assumed-start : (b : List ℕ) (n : ℕ) (L W : List ℕ) → length L ≡ countOf b 1 → length W ≡ length L →
-    ((a : ℕ) → a < countOf b 1 → held W a ≡ wipe (candidateIn b n L) (held L) a) → Assumed b n L W
-assumed-start b n L W size long at = record {
+pub assumed-start : (b : List ℕ) (n : ℕ) (A W : List ℕ) → length A ≡ countOf b 1 → length W ≡ 2048 →
+    ((a : ℕ) → a < countOf b 1 → held W a ≡ wipe (candidateIn b n A) (held A) a) →
+    ((a : ℕ) → countOf b 1 ≤ a → held W a ≡ Truth.undefined) → Assumed b n A W
+assumed-start b n A W size long at rest = record {
   long = long;
-  chosen = candidateIn b n L;
+  chosen = candidateIn b n A;
   counted = λ a.
       by-cases (decLt a (countOf b 1)) (at a)
       (λ out.
       let o : countOf b 1 ≤ a = omega (arith, out) in
-      held-out W a (omega (arith, o, long, size)) ∙
-      sym (rw (candidate-out b n L a o) (held-out L a (omega (arith, o, size)))));
+      rest a o ∙ sym (rw (candidate-out b n A a o) (held-out A a (omega (arith, o, size)))));
   candidates = λ a c. c;
-  every = λ U u a m. let (k, l) = u .closed a m in of-candidate b n L a k l (u .none-true a m);
+  every = λ U u a m. let (k, l) = u .closed a m in of-candidate b n A a k l (u .none-true a m);
 }
 
 -- the candidates that are not false already are the atoms to which all three steps are due
@@ -108,13 +108,10 @@ counts-candidate Truth.undefined false k = rw (and-none (isClosed k))
 counts-candidate Truth.true here k = rw (and-none (isClosed k && here))
 counts-candidate Truth.false here k = by-test (isClosed k && here && true) (λ t. rw t) (λ f. rw f)
 
-pub counted-assumed : (b : List ℕ) (n : ℕ) (L D W : List ℕ) → length L ≡ countOf b 1 → Due b n L D →
-    Counted L D W → Assumed b n L W
+pub counts-wiped : (b : List ℕ) (n : ℕ) (A D : List ℕ) → Due b n A D → (a : ℕ) → a < countOf b 1 →
+    cond (eqb (getD D a 0) 3) Truth.false (held A a) ≡ wipe (candidateIn b n A) (held A) a
 unfolding dueIn pendingIn candidateIn
-counted-assumed b n L D W size d w =
-    assumed-start b n L W size (w .long)
-    (λ a l. w .at a (omega (arith, l, size)) ∙
-    rw (d .steps a l) (counts-candidate (held L a) (eqb (levelRead b a) n) (kindRead b a)))
+counts-wiped b n A D d a l = rw (d .steps a l) (counts-candidate (held A a) (eqb (levelRead b a) n) (kindRead b a))
 
 -- rule r of a book, among the rules as read
 rules-length : (b : List ℕ) → length (tables b .rules) ≡ countOf b 2
@@ -131,28 +128,28 @@ head-is : (b : List ℕ) (r : ℕ) → ruleRead b r .head ≡ ruleIn b r .head
 unfolding ruleOf
 head-is b r = refl
 
-module _ (b : List ℕ) (n : ℕ) (L W : List ℕ) (w : Assumed b n L W) where
-  is-wiped : held W ≡ wipe (w .chosen) (held L)
+module _ (b : List ℕ) (n : ℕ) (A W : List ℕ) (w : Assumed b n A W) where
+  is-wiped : held W ≡ wipe (w .chosen) (held A)
   is-wiped = fun-ext (w .counted)
 
-  none-true : NoneTrue (w .chosen) (held L)
-  none-true a m = candidate-of b n L a (w .candidates a m) .2
+  none-true : NoneTrue (w .chosen) (held A)
+  none-true a m = candidate-of b n A a (w .candidates a m) .2
 
   -- a rule whose head is in an unfounded set has a false body
-  unfounded-false : (U : Atoms) → Unfounded (rulesIn b) (levelsIn b) n U (held L) → (r : ℕ) → r < countOf b 2 →
+  unfounded-false : (U : Atoms) → Unfounded (rulesIn b) (levelsIn b) n U (held A) → (r : ℕ) → r < countOf b 2 →
       So (U (ruleIn b r .head)) → bodyTruth (held W) (ruleRead b r .body) ≡ Truth.false
   unfounded-false U u r l m =
       let (h, i, f) = u .fails (ruleRead b r) (rule-in b r l) (rw (head-is b r) m) in
       →body-false (held W) (ruleRead b r .body) h i
-      (rw is-wiped (wider U (w .chosen) (held L) (w .every U u) none-true h f))
+      (rw is-wiped (wider U (w .chosen) (held A) (w .every U u) none-true h f))
 
 -- what a strike says
-module _ (b L W : List ℕ) (r : ℕ) where
+module _ (b A W : List ℕ) (r : ℕ) where
   abbrev only-assumed : Bool
-  only-assumed = onlyAssumed L W (ruleIn b r .head)
+  only-assumed = onlyAssumed A W (ruleIn b r .head)
 
-  pub strike-of : strikesAt b L W r ≡ true → (held W (ruleIn b r .head) ≡ Truth.false)
-      × (held L (ruleIn b r .head) ≡ Truth.undefined)
+  pub strike-of : strikesAt b A W r ≡ true → (held W (ruleIn b r .head) ≡ Truth.false)
+      × (held A (ruleIn b r .head) ≡ Truth.undefined)
       × (bodyTruth (held W) (ruleRead b r .body) ≡ Truth.false → ⊥)
   unfolding strikesAt
   strike-of s =
@@ -163,20 +160,20 @@ module _ (b L W : List ℕ) (r : ℕ) where
       )
 
   -- where a rule does not strike a head that is only assumed false, its body is false
-  no-strike : strikesAt b L W r ≡ false → held W (ruleIn b r .head) ≡ Truth.false →
-      held L (ruleIn b r .head) ≡ Truth.undefined → bodyTruth (held W) (ruleRead b r .body) ≡ Truth.false
+  no-strike : strikesAt b A W r ≡ false → held W (ruleIn b r .head) ≡ Truth.false →
+      held A (ruleIn b r .head) ≡ Truth.undefined → bodyTruth (held W) (ruleRead b r .body) ≡ Truth.false
   unfolding strikesAt
   no-strike s f u =
       let o : So only-assumed = both (ap isFalse f) (ap isUndefined u) in
       false-of _ (not-false _ (and-fails only-assumed _ o s))
 
   -- a strike leaves what is assumed so
-  module _ (n : ℕ) (w : Assumed b n L W) (l : r < countOf b 2) (m : ruleIn b r .head < length W)
-      (s : strikesAt b L W r ≡ true) where
-    not-unfounded : (U : Atoms) → Unfounded (rulesIn b) (levelsIn b) n U (held L) → So (U (ruleIn b r .head)) → ⊥
-    not-unfounded U u i = strike-of s .2 (unfounded-false b n L W w U u r l i)
+  module _ (n : ℕ) (w : Assumed b n A W) (l : r < countOf b 2) (m : ruleIn b r .head < length W)
+      (s : strikesAt b A W r ≡ true) where
+    not-unfounded : (U : Atoms) → Unfounded (rulesIn b) (levelsIn b) n U (held A) → So (U (ruleIn b r .head)) → ⊥
+    not-unfounded U u i = strike-of s .2 (unfounded-false b n A W w U u r l i)
 
-    struck : Assumed b n L (set W (ruleIn b r .head) 0)
+    pub struck : Assumed b n A (set W (ruleIn b r .head) 0)
     struck = let h = ruleIn b r .head in record {
       long = length-set W h 0 ∙ w .long;
       chosen = λ a. not (eqb a h) && w .chosen a;
@@ -191,15 +188,15 @@ module _ (b L W : List ℕ) (r : ℕ) where
     }
 
 -- where each rule whose head is only assumed false has a false body, what is assumed is exact
-module _ (b : List ℕ) (n : ℕ) (L W : List ℕ) (size : length L ≡ countOf b 1) (w : Assumed b n L W)
+module _ (b : List ℕ) (n : ℕ) (A W : List ℕ) (size : length A ≡ countOf b 1) (w : Assumed b n A W)
     (refuted : (r : ℕ) → r < countOf b 2 → held W (ruleIn b r .head) ≡ Truth.false →
-    held L (ruleIn b r .head) ≡ Truth.undefined → bodyTruth (held W) (ruleRead b r .body) ≡ Truth.false) where
+    held A (ruleIn b r .head) ≡ Truth.undefined → bodyTruth (held W) (ruleRead b r .body) ≡ Truth.false) where
   -- those that are undefined without it
   abbrev only : Atoms
-  only a = w .chosen a && isUndefined (held L a)
+  only a = w .chosen a && isUndefined (held A a)
 
-  only-wiped : held W ≡ wipe only (held L)
-  only-wiped = fun-ext (λ a. w .counted a ∙ go (w .chosen a) (held L a) (none-true b n L W w a))
+  only-wiped : held W ≡ wipe only (held A)
+  only-wiped = fun-ext (λ a. w .counted a ∙ go (w .chosen a) (held A a) (none-true b n A W w a))
     where
       go : (c : Bool) (x : Truth) → (So c → x ≡ Truth.true → ⊥) →
           cond c Truth.false x ≡ cond (c && isUndefined x) Truth.false x
@@ -208,24 +205,24 @@ module _ (b : List ℕ) (n : ℕ) (L W : List ℕ) (size : length L ≡ countOf 
       go true Truth.false f = refl
       go false x f = refl
 
-  only-none : NoneTrue only (held L)
-  only-none a m = none-true b n L W w a (left (w .chosen a) _ m)
+  only-none : NoneTrue only (held A)
+  only-none a m = none-true b n A W w a (left (w .chosen a) _ m)
 
   -- each rule with such a head has a false body
   only-false : (r : ℕ) → r < countOf b 2 → So (only (ruleIn b r .head)) →
       bodyTruth (held W) (ruleRead b r .body) ≡ Truth.false
   only-false r l m =
       let h = ruleIn b r .head in
-      let f : held W h ≡ Truth.false = rw only-wiped (wipe-in only (held L) h m) in
+      let f : held W h ≡ Truth.false = rw only-wiped (wipe-in only (held A) h m) in
       refuted r l f (undefined-of _ (right (w .chosen h) _ m))
 
-  false-fails : (h : Hypothesis) → hypothesisTruth (held W) h ≡ Truth.false → Fails only (held L) h
+  false-fails : (h : Hypothesis) → hypothesisTruth (held W) h ≡ Truth.false → Fails only (held A) h
   false-fails h f =
-      false→fails only (held L) only-none h (subst (λ (A : Answers). hypothesisTruth A h ≡ Truth.false) only-wiped f)
+      false→fails only (held A) only-none h (subst (λ (X : Answers). hypothesisTruth X h ≡ Truth.false) only-wiped f)
 
   -- so a hypothesis of it fails
   only-fails : (r : Rule) → In r (rulesIn b .rules) → So (only (r .head)) →
-      (h : Hypothesis) × In h (r .body) × Fails only (held L) h
+      (h : Hypothesis) × In h (r .body) × Fails only (held A) h
   unfolding reading
   only-fails r i m =
       let (x, j, e) = map-in (ruleOf (tables b)) (tables b .rules) r i in
@@ -237,39 +234,39 @@ module _ (b : List ℕ) (n : ℕ) (L W : List ℕ) (size : length L ≡ countOf 
       let (h, o, v) = body-false→ (held W) (r .body) f in
       (h, o, false-fails h v)
 
-  only-unfounded : Unfounded (rulesIn b) (levelsIn b) n only (held L)
+  only-unfounded : Unfounded (rulesIn b) (levelsIn b) n only (held A)
   only-unfounded = record {
-    closed = λ a m. let (c, l, _) = candidate-of b n L a (w .candidates a (left (w .chosen a) _ m)) in (c, l);
+    closed = λ a m. let (c, l, _) = candidate-of b n A a (w .candidates a (left (w .chosen a) _ m)) in (c, l);
     none-true = only-none;
     fails = only-fails;
   }
 
-  refuted-exact : Exact b n L W
+  refuted-exact : Exact b n A W
   refuted-exact = record {
     long = w .long;
     counted = λ a.
-        ap (λ (A : Answers). A a) only-wiped ∙
-        by-test (only a) (λ m. rw (m, found-greatest b n L size only only-unfounded a m))
-        (λ f. by-test (found b n L size a) (λ m. rw (f, m) (already a f m)) (λ g. rw (f, g)));
+        ap (λ (X : Answers). X a) only-wiped ∙
+        by-test (only a) (λ m. rw (m, found-greatest b n A size only only-unfounded a m))
+        (λ f. by-test (found b n A size a) (λ m. rw (f, m) (already a f m)) (λ g. rw (f, g)));
   }
     where
       -- an unfounded atom that is not undefined without it is false already
-      already : (a : ℕ) → only a ≡ false → So (found b n L size a) → held L a ≡ Truth.false
+      already : (a : ℕ) → only a ≡ false → So (found b n A size a) → held A a ≡ Truth.false
       already a f m =
-          let c = w .every (found b n L size) (found-unfounded b n L size) a m in
-          by-answer (held L a) (λ u. test-clash (both c (ap isUndefined u)) f)
-          (λ t. absurd (none-true b n L W w a c t)) (λ v. v)
+          let c = w .every (found b n A size) (found-unfounded b n A size) a m in
+          by-answer (held A a) (λ u. test-clash (both c (ap isUndefined u)) f)
+          (λ t. absurd (none-true b n A W w a c t)) (λ v. v)
 
 -- so it is where no rule strikes
-pub quiet-exact : (b : List ℕ) (n : ℕ) (L W : List ℕ) → length L ≡ countOf b 1 → Assumed b n L W →
-    ((r : ℕ) → r < countOf b 2 → strikesAt b L W r ≡ false) → Exact b n L W
-quiet-exact b n L W size w quiet = refuted-exact b n L W size w (λ r l f u. no-strike b L W r (quiet r l) f u)
+pub quiet-exact : (b : List ℕ) (n : ℕ) (A W : List ℕ) → length A ≡ countOf b 1 → Assumed b n A W →
+    ((r : ℕ) → r < countOf b 2 → strikesAt b A W r ≡ false) → Exact b n A W
+quiet-exact b n A W size w quiet = refuted-exact b n A W size w (λ r l f u. no-strike b A W r (quiet r l) f u)
 
 -- and where no atom is only assumed false
-pub settled-exact : (b : List ℕ) (n : ℕ) (L W : List ℕ) → Indexed b → length L ≡ countOf b 1 → Assumed b n L W →
-    ((a : ℕ) → a < countOf b 1 → onlyAssumed L W a ≡ false) → Exact b n L W
-settled-exact b n L W I size w none =
-    refuted-exact b n L W size w
+pub settled-exact : (b : List ℕ) (n : ℕ) (A W : List ℕ) → Indexed b → length A ≡ countOf b 1 → Assumed b n A W →
+    ((a : ℕ) → a < countOf b 1 → onlyAssumed A W a ≡ false) → Exact b n A W
+settled-exact b n A W I size w none =
+    refuted-exact b n A W size w
     (λ r l f u. test-clash (both (ap isFalse f) (ap isUndefined u)) (none (ruleIn b r .head) (I .head r l)))
 
 -- an answer that is made undefined
@@ -280,15 +277,3 @@ less-known W h m a =
     rw (eqb-true a h t) (held-same W h 0 Truth.undefined m refl) in
     (λ e. absurd (undefined-true u e), λ e. absurd (undefined-false u e)))
     (λ n. subst (λ (x : Truth). x ≼ held W a) (sym (held-other W h 0 a (eqb-false a h n))) (⊑-refl (held W) a))
-
--- strikes from B on
-module _ (b L B : List ℕ) where
-  pub follows-none : Follows b L B B
-  follows-none = record { less = ⊑-refl (held B); keeps = λ n w. w }
-
-  pub follows-struck : (W : List ℕ) (r : ℕ) → ruleIn b r .head < length W → r < countOf b 2 →
-      strikesAt b L W r ≡ true → Follows b L B W → Follows b L B (set W (ruleIn b r .head) 0)
-  follows-struck W r m l s f = let h = ruleIn b r .head in record {
-    less = ⊑-trans {A = held (set W h 0)} {B = held W} {C = held B} (less-known W h m) (f .less);
-    keeps = λ n w. struck b L W r n (f .keeps n w) l m s;
-  }

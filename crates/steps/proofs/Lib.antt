@@ -11,12 +11,14 @@ pub mod HeadLaws
 pub mod AssumedLaws
 -- which rules have a false body at what is assumed
 pub mod FailLaws
+-- what a search knows of bodies
+pub mod KnownLaws
 -- one rule's strike
 pub mod StrikeLaws
--- passes over the rules
-pub mod PassLaws
--- turns until the end
-pub mod TurnLaws
+-- what is assumed at the start
+pub mod StartLaws
+-- a search: strikes, passes, its end
+pub mod SearchLaws
 -- the loop that writes
 pub mod SettleLaws
 -- what it writes is the model's next answer

@@ -1,11 +1,11 @@
 -- A round of the code is a round of the model. Assumes nothing.
-use mathlib.Core.Path.{_≡_, sym, ap, _∙_}
+use mathlib.Core.Path.{_≡_, refl, sym, ap, _∙_}
 use mathlib.Core.Bool.{Bool, true, false}
-use mathlib.Core.List.{List, _++_}
-use Prim.Native.Nat.{ℕ, _+_, _<_, _≤_}
+use mathlib.Core.List.{List}
+use Prim.Native.Nat.{ℕ, _<_, _≤_}
 use native.Mathlib.Omega.{arith}
-use lib.ListN.{length, getD, length-append, length-map, take}
-use lib.Seq.{getD-take, length-take-le, take-append-seam}
+use lib.ListN.{length, getD, length-map, take}
+use lib.Seq.{getD-take, length-take-le}
 use Rattle.laws.specs.Lists.{mapAt}
 use Rattle.laws.proofs.Entries.{map-at}
 use Rattle.laws.proofs.Places.{mapAt-at, mapAt-length}
@@ -16,7 +16,6 @@ use Rattle.meaning.specs.Model.{next, round, unfounded}
 use Rattle.judge.specs.Held.{held}
 use Rattle.steps.specs.Work.{Exact, Ready, answersIn, levelsIn, rulesIn}
 use Rattle.steps.specs.Due.{Due}
-use Rattle.steps.specs.Strike.{Ended}
 use Rattle.steps.specs.Round.{Gathered, Judged, Settled, Turn}
 use Rattle.steps.proofs.WorkLaws.{few, written-all}
 use Rattle.steps.proofs.HeadLaws.{head-derived, head-refuted}
@@ -79,38 +78,12 @@ module _ (b : List ℕ) (n : ℕ) (L D best W now : List ℕ) (c : Bool) (S : Se
     moves = λ e q. other-round e (written-round ∙ q);
   }
 
--- the array of 2048, lent as far as there are atoms, and as it comes back
-module _ (b L : List ℕ) (F : Ready b) (s : length L ≡ countOf b 1) where
-  pub lent-room : length L ≤ 2048
-  lent-room = omega (arith, few b F, s)
-
-  pub lent-within : (W : List ℕ) → length W ≡ 2048 → length L ≤ length W
-  lent-within W l = omega (arith, few b F, s, l)
-
-  pub lent-count : (W : List ℕ) → length W ≡ 2048 → length L ≡ length (take (length L) W)
-  lent-count W l = sym (length-take-le (length L) W (lent-within W l))
-
-  pub lent-long : (W : List ℕ) → length W ≡ 2048 → length (take (length L) W) ≡ countOf b 1
-  lent-long W l = sym (lent-count W l) ∙ s
-
-module _ (b L D W Z : List ℕ) (n : ℕ) (E : Ended b L D W) (d : Due b n L D) where
-  long : length W ≡ length L
-  long = E .exact n d .long
-
-  front : take (length L) (W ++ Z) ≡ W
-  front = rw (← long) (take-append-seam W Z)
-
-  pub back-exact : Exact b n L (take (length L) (W ++ Z))
-  back-exact = rw front (E .exact n d)
-
-  pub back-within : length L ≤ length (W ++ Z)
-  back-within = omega (arith, long, length-append W Z)
-
-  pub back-count : length L ≡ length (take (length L) (W ++ Z))
-  back-count = rw front (sym long)
-
-  pub back-long : length (take (length L) (W ++ Z)) ≡ length L
-  back-long = rw front long
+-- whether a round changes anything is fixed by its answers
+pub turn-unique : (b : List ℕ) (n : ℕ) (L X Y : List ℕ) (c d : Bool) → Turn b n L X c → Turn b n L Y d → c ≡ d
+turn-unique b n L X Y true true S T = refl
+turn-unique b n L X Y true false S T = absurd (S .moves refl (T .rests refl))
+turn-unique b n L X Y false true S T = absurd (T .moves refl (S .rests refl))
+turn-unique b n L X Y false false S T = refl
 
 pub gathered-long : (b L D best : List ℕ) (k : ℕ) → Gathered b L D best k → length best ≡ 2048
 gathered-long b L D best k G = G .long
@@ -118,16 +91,10 @@ gathered-long b L D best k G = G .long
 pub due-long : (b : List ℕ) (n : ℕ) (L D : List ℕ) → Due b n L D → length D ≡ 2048
 due-long b n L D d = d .long
 
-pub ruleset turn-round = (
-  gathered-long,
-  due-long,
-  lent-room,
-  lent-within,
-  lent-count,
-  lent-long,
-  back-exact,
-  back-within,
-  back-count,
-  back-long,
-  turned,
-)
+pub exact-long : (b : List ℕ) (n : ℕ) (L W : List ℕ) → Exact b n L W → length W ≡ 2048
+exact-long b n L W e = e .long
+
+pub answers-few : (b L : List ℕ) → Ready b → length L ≡ countOf b 1 → length L ≤ 2048
+answers-few b L F s = omega (arith, few b F, s)
+
+pub ruleset turn-round = (gathered-long, due-long, exact-long, answers-few, turned)

@@ -117,6 +117,18 @@ pub settled-all : (L D best W now : List ℕ) (c : Bool) (a : ℕ) → a ≤ len
     Settled L D best W now c a → Settled L D best W now c (length L)
 settled-all L D best W now c a l o S = let q : a ≡ length L = omega (arith, l, o) in rw (← q) S
 
+-- whether an answer differs is fixed by what they are
+module _ (L D best W X Y : List ℕ) (i : ℕ) where
+  apart : Settled L D best W X true i → Settled L D best W Y false i → ⊥
+  apart S T = let (a, l, f) = S .differs refl in f (S .answers a l ∙ sym (T .answers a l) ∙ T .same refl a l)
+
+pub settled-unique : (L D best W X Y : List ℕ) (c d : Bool) (i : ℕ) → Settled L D best W X c i →
+    Settled L D best W Y d i → c ≡ d
+settled-unique L D best W X Y true true i S T = refl
+settled-unique L D best W X Y true false i S T = absurd (apart L D best W X Y i S T)
+settled-unique L D best W X Y false true i S T = absurd (apart L D best W Y X i T S)
+settled-unique L D best W X Y false false i S T = refl
+
 -- where the arrays and slices are read and written
 module _ (L : List ℕ) (a : ℕ) (l : a < length L) where
   pub atom-small : length L ≤ 2048 → a < 2048
@@ -124,9 +136,6 @@ module _ (L : List ℕ) (a : ℕ) (l : a < length L) where
 
   pub atom-there : (X : List ℕ) → length X ≡ 2048 → length L ≤ 2048 → a < length X
   atom-there X e m = omega (arith, e, l, m)
-
-  pub assumed-there : (W : List ℕ) → length W ≡ length L → a < length W
-  assumed-there W e = omega (arith, e, l)
 
 pub answer-small : (L : List ℕ) (a x : ℕ) → x ≡ codeOf (held L a) → x < 3
 answer-small L a x e = rw e (small (held L a))
@@ -136,4 +145,4 @@ answer-small L a x e = rw e (small (held L a))
     small Truth.true = omega arith
     small Truth.false = omega arith
 
-pub ruleset settling = (settled-none, settled-all, atom-small, atom-there, assumed-there, answer-small)
+pub ruleset settling = (settled-none, settled-all, atom-small, atom-there, answer-small)

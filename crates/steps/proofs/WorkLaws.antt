@@ -6,7 +6,7 @@ use mathlib.Core.List.{List, map}
 use Prim.Native.Nat.{ℕ, _+_, _<_, _≤_}
 use native.Mathlib.Omega.{arith}
 use native.Mathlib.Decide.{decLt}
-use lib.ListN.{length, getD, length-map, length-replicate, length-set, replicate, set, take}
+use lib.ListN.{length, getD, getD-replicate, length-map, length-replicate, length-set, replicate, set, take}
 use lib.Seq.{ext-getD, getD-set-other, getD-set-same, getD-take, length-take-le}
 use Rattle.laws.proofs.Stores.{stored}
 use Rattle.laws.proofs.Entries.{map-at}
@@ -56,6 +56,13 @@ held-take W n a l = ap truthOf (getD-take n W a 0 l)
 pub held-out : (W : List ℕ) (a : ℕ) → length W ≤ a → held W a ≡ Truth.undefined
 unfolding held
 held-out W a l = ap truthOf (getD-out 0 W a l)
+
+-- and where nothing is written yet
+pub held-none : (n a : ℕ) → held (replicate n 0) a ≡ Truth.undefined
+unfolding held
+held-none n a =
+    by-cases (decLt a n) (λ l. ap truthOf (getD-replicate n a 0 0 l))
+    (λ o. held-out (replicate n 0) a (omega (arith, o, length-replicate {A = ℕ} n 0)))
 
 -- the first i atoms have the answers that f says
 pub record Written (f : ℕ → Truth) (now : List ℕ) (i : ℕ) : Type 0 where

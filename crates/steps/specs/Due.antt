@@ -13,7 +13,7 @@ use Rattle.judge.specs.Held.{held}
 
 -- atom a is undefined, and of level n
 unfoldable pub pendingIn : List ℕ → ℕ → List ℕ → ℕ → Bool
-pendingIn b n L a = isUndefined (held L a) && eqb (levelRead b a) n
+pendingIn b n A a = isUndefined (held A a) && eqb (levelRead b a) n
 
 -- how many of the steps (a), (b) and (c) are for a kind: (a) for all, (b) for complete and closed, (c) for closed
 abbrev pub stepsOf : Kind → ℕ
@@ -24,9 +24,9 @@ stepsOf Kind.closed = 3
 
 -- and for atom a in a round of level n: none if it is decided, or of another level
 unfoldable pub dueIn : List ℕ → ℕ → List ℕ → ℕ → ℕ
-dueIn b n L a = cond (pendingIn b n L a) (stepsOf (kindRead b a)) 0
+dueIn b n A a = cond (pendingIn b n A a) (stepsOf (kindRead b a)) 0
 
 -- D has this for each atom
-pub record Due (b : List ℕ) (n : ℕ) (L D : List ℕ) : Type 0 where
+pub record Due (b : List ℕ) (n : ℕ) (A D : List ℕ) : Type 0 where
   pub long : length D ≡ 2048
-  pub steps : (a : ℕ) → a < countOf b 1 → getD D a 0 ≡ dueIn b n L a
+  pub steps : (a : ℕ) → a < countOf b 1 → getD D a 0 ≡ dueIn b n A a

@@ -23,25 +23,25 @@ join Truth.false y = y
 
 -- the body of rule r
 abbrev pub bodyIn : List ℕ → List ℕ → ℕ → Truth
-bodyIn b L r = bodyTruth (held L) (ruleRead b r .body)
+bodyIn b A r = bodyTruth (held A) (ruleRead b r .body)
 
 -- the first k rules that conclude a: true if one body is true, false if all are false
 unfoldable pub headTruth : List ℕ → List ℕ → ℕ → ℕ → Truth
-headTruth b L a zero = Truth.false
-headTruth b L a (suc k) =
-    cond (eqb (ruleIn b k .head) a) (join (headTruth b L a k) (bodyIn b L k)) (headTruth b L a k)
+headTruth b A a zero = Truth.false
+headTruth b A a (suc k) =
+    cond (eqb (ruleIn b k .head) a) (join (headTruth b A a k) (bodyIn b A k)) (headTruth b A a k)
 
 -- what has been gathered from the first k rules for the atoms to which a step is due
-pub record Gathered (b L D best : List ℕ) (k : ℕ) : Type 0 where
+pub record Gathered (b A D best : List ℕ) (k : ℕ) : Type 0 where
   pub long : length best ≡ 2048
-  pub truths : (a : ℕ) → a < countOf b 1 → (getD D a 0 ≡ 0 → ⊥) → truthOf (getD best a 0) ≡ headTruth b L a k
+  pub truths : (a : ℕ) → a < countOf b 1 → (getD D a 0 ≡ 0 → ⊥) → truthOf (getD best a 0) ≡ headTruth b A a k
 
 -- the same for all rules, in the words of steps (a) and (b)
-pub record Judged (b L D best : List ℕ) : Type 0 where
+pub record Judged (b A D best : List ℕ) : Type 0 where
   pub rises : (a : ℕ) → a < countOf b 1 → (getD D a 0 ≡ 0 → ⊥) →
-      isTrue (truthOf (getD best a 0)) ≡ derived (rulesIn b) (answersOf (answersIn L)) a
+      isTrue (truthOf (getD best a 0)) ≡ derived (rulesIn b) (answersOf (answersIn A)) a
   pub sinks : (a : ℕ) → a < countOf b 1 → (getD D a 0 ≡ 0 → ⊥) →
-      isFalse (truthOf (getD best a 0)) ≡ refuted (rulesIn b) (answersOf (answersIn L)) a
+      isFalse (truthOf (getD best a 0)) ≡ refuted (rulesIn b) (answersOf (answersIn A)) a
 
 -- what an atom gets: due the number of steps that may decide it, x its answer, best the truth of its rules, assumed
 -- its answer once the unfounded set counts as false
@@ -53,18 +53,18 @@ nextTruth due x best assumed =
 
 -- what it gets from these lists
 abbrev pub nextOf : List ℕ → List ℕ → List ℕ → List ℕ → ℕ → Truth
-nextOf L D best W a = nextTruth (getD D a 0) (held L a) (truthOf (getD best a 0)) (held W a)
+nextOf A D best W a = nextTruth (getD D a 0) (held A a) (truthOf (getD best a 0)) (held W a)
 
 -- the next answers of the first i atoms, and whether one of them differs from before
-pub record Settled (L D best W now : List ℕ) (changed : Bool) (i : ℕ) : Type 0 where
+pub record Settled (A D best W now : List ℕ) (changed : Bool) (i : ℕ) : Type 0 where
   pub long : length now ≡ 2048
-  pub answers : (a : ℕ) → a < i → truthOf (getD now a 0) ≡ nextOf L D best W a
-  pub same : changed ≡ false → (a : ℕ) → a < i → truthOf (getD now a 0) ≡ held L a
-  pub differs : changed ≡ true → (a : ℕ) × (a < i) × (truthOf (getD now a 0) ≡ held L a → ⊥)
+  pub answers : (a : ℕ) → a < i → truthOf (getD now a 0) ≡ nextOf A D best W a
+  pub same : changed ≡ false → (a : ℕ) → a < i → truthOf (getD now a 0) ≡ held A a
+  pub differs : changed ≡ true → (a : ℕ) × (a < i) × (truthOf (getD now a 0) ≡ held A a → ⊥)
 
--- the model's round at the answers L, and whether it changes anything
-pub record Turn (b : List ℕ) (n : ℕ) (L after : List ℕ) (changed : Bool) : Type 0 where
+-- the model's round at the answers A, and whether it changes anything
+pub record Turn (b : List ℕ) (n : ℕ) (A after : List ℕ) (changed : Bool) : Type 0 where
   pub long : length after ≡ 2048
-  pub is : answersIn (take (countOf b 1) after) ≡ round (rulesIn b) (levelsIn b) n (answersIn L)
-  pub rests : changed ≡ false → round (rulesIn b) (levelsIn b) n (answersIn L) ≡ answersIn L
-  pub moves : changed ≡ true → round (rulesIn b) (levelsIn b) n (answersIn L) ≡ answersIn L → ⊥
+  pub is : answersIn (take (countOf b 1) after) ≡ round (rulesIn b) (levelsIn b) n (answersIn A)
+  pub rests : changed ≡ false → round (rulesIn b) (levelsIn b) n (answersIn A) ≡ answersIn A
+  pub moves : changed ≡ true → round (rulesIn b) (levelsIn b) n (answersIn A) ≡ answersIn A → ⊥

@@ -1,75 +1,89 @@
--- Step (c) by striking out: the answers with some of the level's candidates counted as false, and when a rule takes
--- one of them back. Assumes nothing.
+-- Step (c) by striking out: the answers A with some of the level's candidates counted as false, W, when a rule takes
+-- one of them back, and what a search knows of bodies meanwhile, K. Assumes nothing.
 use mathlib.Core.Path.{_≡_}
-use mathlib.Core.Bool.{Bool, So, cond, not, _&&_}
+use mathlib.Core.Bool.{Bool, So, true, false, cond, not, _&&_}
 use mathlib.Core.List.{List}
-use Prim.Native.Nat.{ℕ, _<_}
-use lib.Dec.{eqb}
+use Prim.Native.Nat.{ℕ, zero, suc, _+_, _*_, _<_, _≤_}
+use lib.Dec.{eqb, leb}
 use lib.ListN.{length, getD}
-use Rattle.laws.proofs.Counting.{number}
+use Rattle.laws.specs.Lists.{anyTo}
 use Rattle.theory.specs.Truth.{Truth, isFalse, isUndefined}
-use Rattle.theory.specs.Answers.{Atoms, _⊑_, wipe}
+use Rattle.theory.specs.Answers.{Atoms, wipe}
 use Rattle.meaning.specs.Format.{countOf}
-use Rattle.meaning.specs.Reading.{truthOf}
 use Rattle.meaning.specs.Truth.{bodyTruth}
 use Rattle.meaning.specs.Model.{candidate}
 use Rattle.meaning.specs.Founded.{Unfounded}
 use Rattle.book.specs.Records.{hypothesisIn, ruleIn, ruleRead}
 use Rattle.judge.specs.Held.{freshAt, held, recordTruth}
 use Rattle.steps.specs.Work.{Exact, levelsIn, rulesIn}
-use Rattle.steps.specs.Due.{Due}
 
--- the candidates of level n at the answers L: closed, of the level and not true
+-- the candidates of level n at the answers A: closed, of the level and not true
 unfoldable pub candidateIn : List ℕ → ℕ → List ℕ → Atoms
-candidateIn b n L a = candidate (rulesIn b) (levelsIn b) n a (held L a)
+candidateIn b n A a = candidate (rulesIn b) (levelsIn b) n a (held A a)
 
--- W is L with some candidates counted as false, and every unfounded set is among them
-pub record Assumed (b : List ℕ) (n : ℕ) (L W : List ℕ) : Type 0 where
-  pub long : length W ≡ length L
+-- W is A with some candidates counted as false, and every unfounded set is among them
+pub record Assumed (b : List ℕ) (n : ℕ) (A W : List ℕ) : Type 0 where
+  pub long : length W ≡ 2048
   pub chosen : Atoms
-  pub counted : (a : ℕ) → held W a ≡ wipe chosen (held L) a
-  pub candidates : (a : ℕ) → So (chosen a) → So (candidateIn b n L a)
-  pub every : (U : Atoms) → Unfounded (rulesIn b) (levelsIn b) n U (held L) → (a : ℕ) → So (U a) → So (chosen a)
+  pub counted : (a : ℕ) → held W a ≡ wipe chosen (held A) a
+  pub candidates : (a : ℕ) → So (chosen a) → So (candidateIn b n A a)
+  pub every : (U : Atoms) → Unfounded (rulesIn b) (levelsIn b) n U (held A) → (a : ℕ) → So (U a) → So (chosen a)
 
--- W is L with the atoms counted as false to which all three steps are due
-pub record Counted (L D W : List ℕ) : Type 0 where
-  pub long : length W ≡ length L
-  pub at : (a : ℕ) → a < length L → held W a ≡ cond (eqb (getD D a 0) 3) Truth.false (held L a)
+-- an atom to which all three steps are due counts as false
+abbrev pub countedTruth : ℕ → Truth → Truth
+countedTruth due x = cond (eqb due 3) Truth.false x
 
--- an atom that is undefined at L and false at W
+-- an atom that is undefined at A and false at W
 abbrev pub onlyAssumed : List ℕ → List ℕ → ℕ → Bool
-onlyAssumed L W a = isFalse (held W a) && isUndefined (held L a)
+onlyAssumed A W a = isFalse (held W a) && isUndefined (held A a)
+
+-- how many of the first i atoms are
+unfoldable pub waiting : List ℕ → List ℕ → ℕ → ℕ
+waiting A W zero = 0
+waiting A W (suc a) = waiting A W a + cond (onlyAssumed A W a) 1 0
 
 -- Rule r strikes its head: that is only assumed false, and the body is not false at what is assumed.
-unfoldable pub strikesAt : (b L W : List ℕ) → ℕ → Bool
-strikesAt b L W r =
-    onlyAssumed L W (ruleIn b r .head) && not (isFalse (bodyTruth (held W) (ruleRead b r .body)))
+unfoldable pub strikesAt : (b A W : List ℕ) → ℕ → Bool
+strikesAt b A W r =
+    onlyAssumed A W (ruleIn b r .head) && not (isFalse (bodyTruth (held W) (ruleRead b r .body)))
 
 -- hypothesis h is false at what is assumed
 unfoldable pub failsAt : List ℕ → List ℕ → ℕ → Bool
 failsAt b W h = isFalse (recordTruth (held W) (freshAt b W) (hypothesisIn b h))
 
--- K has 2 for each comparison that is false at W, and for others too that were false before or were not looked at.
-pub record Lags (b W K : List ℕ) : Type 0 where
-  pub long : length K ≡ 512
-  pub falls : (c : ℕ) → c < countOf b 4 → freshAt b W c ≡ Truth.false → getD K c 0 ≡ 2
+-- one of the hypotheses from i on is, up to j
+unfoldable pub failsIn : List ℕ → List ℕ → ℕ → ℕ → Bool
+failsIn b W i j = anyTo (λ h. leb i h && failsAt b W h) j
 
--- how many answers are false
-unfoldable pub falses : List ℕ → ℕ
-falses W = number (λ x. isFalse (truthOf x)) W
+-- block k begins at h and ends by e, if k is one of the 64 blocks
+pub record Begins (h e k : ℕ) : Type 0 where
+  pub block : k < 64 → (h ≡ 64 * k) × (h + 64 ≤ e)
 
--- W after some strikes from B: it decides no more, and is assumed if B is
-pub record Follows (b L B W : List ℕ) : Type 0 where
-  pub less : held W ⊑ held B
-  pub keeps : (n : ℕ) → Assumed b n L B → Assumed b n L W
+-- What K says, with so many atoms left to strike: a comparison or a block of 64 hypotheses that has 65,535 is not
+-- false at W, and a comparison that has the number left is false. It says so too where less is decided and fewer left.
+pub record Known (b W K : List ℕ) (left : ℕ) : Type 0 where
+  pub long : length K ≡ 576
+  pub few : left < 65534
+  pub late : (c : ℕ) → c < countOf b 4 → left ≤ getD K c 0
+  pub stays : (c : ℕ) → c < countOf b 4 → getD K c 0 ≡ 65535 → isFalse (freshAt b W c) ≡ false
+  pub falls : (c : ℕ) → c < countOf b 4 → getD K c 0 ≡ left → isFalse (freshAt b W c) ≡ true
+  pub clear : (k h : ℕ) → getD K (512 + k) 0 ≡ 65535 → 64 * k ≤ h → h < 64 * k + 64 → failsAt b W h ≡ false
 
--- what step (c) assumes before it has ended, and at its end, at the level whose steps are due
-pub record Stands (b L D W : List ℕ) : Type 0 where
-  pub assumed : (n : ℕ) → Due b n L D → Assumed b n L W
+-- how far a search of level n has come
+pub record Searched (b : List ℕ) (n : ℕ) (A W K : List ℕ) (left : ℕ) : Type 0 where
+  pub assumed : Assumed b n A W
+  pub waits : left ≡ waiting A W (countOf b 1)
+  pub known : Known b W K left
 
-pub record Ended (b L D W : List ℕ) : Type 0 where
-  pub exact : (n : ℕ) → Due b n L D → Exact b n L W
+-- it is at W with x left, after rule r was looked at from B with so many left: if no fewer are left, r does not strike
+pub record Struck (b : List ℕ) (n : ℕ) (A B W K : List ℕ) (r left x : ℕ) : Type 0 where
+  pub searched : Searched b n A W K x
+  pub fewer : x ≤ left
+  pub quiet : x ≡ left → (strikesAt b A B r ≡ false) × (W ≡ B)
 
--- W after a whole pass from B: if that struck nothing out, nothing is left to strike
-pub record Ends (b L B W : List ℕ) (struck : ℕ) : Type 0 where
-  pub exact : struck ≡ 0 → (n : ℕ) → Assumed b n L B → Exact b n L W
+-- it has come from so many left to fewer, with a rule at the front, and there is more to strike or the set is found
+pub record Come (b : List ℕ) (n : ℕ) (A W K : List ℕ) (start front left : ℕ) (more : Bool) : Type 0 where
+  pub searched : Searched b n A W K left
+  pub fewer : left ≤ start
+  pub place : front < 2049
+  pub ends : more ≡ false → Exact b n A W

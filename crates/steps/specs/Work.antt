@@ -20,9 +20,9 @@ levelsIn b = levelsOf (tables b)
 
 -- bytes as a list of answers
 abbrev pub answersIn : List ℕ → List Truth
-answersIn L = map truthOf L
+answersIn A = map truthOf A
 
--- W is L with the greatest unfounded set of level n counted as false
-pub record Exact (b : List ℕ) (n : ℕ) (L W : List ℕ) : Type 0 where
-  pub long : length W ≡ length L
-  pub counted : (a : ℕ) → held W a ≡ wipe (membersOf (unfounded (rulesIn b) (levelsIn b) n (answersIn L))) (held L) a
+-- W is A with the greatest unfounded set of level n counted as false
+pub record Exact (b : List ℕ) (n : ℕ) (A W : List ℕ) : Type 0 where
+  pub long : length W ≡ 2048
+  pub counted : (a : ℕ) → held W a ≡ wipe (membersOf (unfounded (rulesIn b) (levelsIn b) n (answersIn A))) (held A) a

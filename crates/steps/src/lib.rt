@@ -2,6 +2,8 @@
 pub mod due;
 pub mod fails;
 pub mod gather;
+pub mod order;
 pub mod round;
 pub mod settle;
 pub mod strike;
+pub mod unfounded;

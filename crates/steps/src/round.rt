@@ -7,31 +7,24 @@ ghost use Rattle.steps.specs.Round.{Turn};
 use crate::due::due;
 use crate::gather::gather;
 use crate::settle::settle;
-use crate::strike::unfounded;
+use crate::unfounded::unfounded;
 
-// The answers after a round, whether it changed one, and how many rules are remembered.
+// The answers after a round, and whether it changed one.
 pub struct Turned {
     pub answers: [u8; 2048],
     pub changed: bool,
-    pub used: usize,
 }
 
 // The order is step (c)'s: it may hold anything, and no answer depends on it.
-pub fn round(book: &[u8], level: usize, before: &[u8], order: &mut [u16], used: usize) -> Turned
-    requires { ⌜ Ready (now book) × (length (now before) ≡ countOf (now book) 1) ⌝ }
+pub fn round(book: &[u8], level: usize, before: &[u8], order: &mut [u16]) -> Turned
+    requires { ⌜ Ready (now book) × (length (now before) ≡ countOf (now book) 1) × (length (now order) ≡ 2049) ⌝ }
     ensures { λ r. ⌜ Turn (now (book .entry)) level (now (before .entry)) (r .answers) (r .changed) ⌝ }
 {
-    let n = before.len();
     let due = due(book, before, level);
     let best = gather(book, before, &due);
-    let mut assumed = [0u8; 2048];
-    let end = unfounded(book, before, &due, &mut assumed[..n], order, used);
-    let settled = settle(before, &due, &best, &assumed[..n]);
+    let assumed = unfounded(book, level, before, &due, order);
+    let settled = settle(before, &due, &best, &assumed);
     let answers = settled.answers;
     let changed = settled.changed;
-    Turned {
-        answers,
-        changed,
-        used: end,
-    }
+    Turned { answers, changed }
 }

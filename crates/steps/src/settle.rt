@@ -39,7 +39,7 @@ pub struct Settling {
 // All atoms.
 pub fn settle(answers: &[u8], due: &[u8], best: &[u8], assumed: &[u8]) -> Settling
     requires { ⌜ (length (now answers) ≤ 2048) × (length (now due) ≡ 2048) × (length (now best) ≡ 2048)
-        × (length (now assumed) ≡ length (now answers)) ⌝ }
+        × (length (now assumed) ≡ 2048) ⌝ }
     ensures { λ r. ⌜ Settled (now (answers .entry)) (now (due .entry)) (now (best .entry)) (now (assumed .entry))
         (r .answers) (r .changed) (length (now (answers .entry))) ⌝ }
 {

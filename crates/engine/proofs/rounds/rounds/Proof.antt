@@ -10,11 +10,11 @@ use Rattle.engine.proofs.rounds.rounds.Statement.{statement}
 use Rattle.engine.proofs.rounds.rounds.Tie as tie
 
 abbrev Inv-loop : tie.InvT-loop
-Inv-loop book level order₀ used n answers₀ end₀ more₀ order answers end more =
-    (length order ≡ length order₀) × Turning book level (take (countOf book 1) answers₀) answers more
+Inv-loop book level order₀ n answers₀ more₀ order answers more =
+    (length order ≡ 2049) × Turning book level (take (countOf book 1) answers₀) answers more
 
 abbrev μ-loop : tie.MeasureT-loop
-μ-loop book level order₀ used n answers₀ end₀ more₀ order answers end more = left book level answers more
+μ-loop book level order₀ n answers₀ more₀ order answers more = left book level answers more
 
 pub rounds-spec : {M : Type 1} → statement M
 rounds-spec =

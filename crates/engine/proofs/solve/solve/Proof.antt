@@ -8,15 +8,15 @@ use Rattle.engine.proofs.solve.solve.Statement.{statement}
 use Rattle.engine.proofs.solve.solve.Tie as tie
 
 abbrev Inv-loop : tie.InvT-loop
-Inv-loop book answers₀ order₀ end₀ level₀ answers order end level =
-    (level ≤ 128) × (length order ≡ 2048) × Done book answers level
+Inv-loop book answers₀ order₀ level₀ answers order level =
+    (level ≤ 128) × (length order ≡ 2049) × Done book answers level
 
 abbrev μ-loop : tie.MeasureT-loop
-μ-loop book answers₀ order₀ end₀ level₀ answers order end level = 128 - level
+μ-loop book answers₀ order₀ level₀ answers order level = 128 - level
 
 pub solve-spec : {M : Type 1} → statement M
 solve-spec =
     tie.close
-    (tie.spec Inv-loop μ-loop (λ c κs. search (needs, solving)) (λ c. search (needs, solving))
+    (tie.spec Inv-loop μ-loop (λ c κs. search (needs, solving)) (λ c κs. search needs) (λ c. search (needs, solving))
     (λ c. search (needs, solving)) (λ c κs. search (needs, solving)) (λ c. search (needs, solving))
     (λ c. search (needs, solving)) (λ c. search (needs, solving)) (λ c. search (needs, solving)))

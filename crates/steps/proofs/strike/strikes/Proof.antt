@@ -1,6 +1,5 @@
 -- `strike::strikes` meets its contract. Assumes nothing.
 use borrow.Author.Needs.{needs}
-use Prim.Native.Nat.{_-_}
 use Rattle.steps.proofs.StrikeLaws.{striking}
 use Rattle.steps.proofs.strike.strikes.Statement.{statement}
 use Rattle.steps.proofs.strike.strikes.Tie as tie

@@ -1,36 +1,44 @@
--- `strike::try_order` meets its contract: what is assumed follows from what was assumed before. Assumes nothing.
+-- `strike::try_order` meets its contract: each look leaves the search so far come. Assumes nothing.
 use borrow.Author.Needs.{needs}
-use Prim.Native.Nat.{_-_, _≤_}
+use Prim.Native.Nat.{_-_, _<_, _≤_}
 use mathlib.Core.Path.{_≡_}
 use lib.ListN.{length}
-use Rattle.meaning.specs.Format.{countOf}
-use Rattle.steps.specs.Strike.{Follows, Lags, falses}
-use Rattle.steps.proofs.PassLaws.{still-long, struck-follows, struck-lags, struck-lower, trying}
+use Rattle.steps.specs.Strike.{Searched}
+use Rattle.steps.proofs.SearchLaws.{rule-short, struck-fewer, struck-searched, trying}
 use Rattle.steps.proofs.strike.try_order.Statement.{statement}
 use Rattle.steps.proofs.strike.try_order.Tie as tie
 
 abbrev Inv-loop : tie.InvT-loop
-Inv-loop book answers assumed₀ order used rules end known₀ j₀ assumed known j =
-    (j ≤ end) × (length assumed ≡ countOf book 1) × Lags book assumed known
-    × Follows book answers assumed₀ assumed × (falses assumed ≤ falses assumed₀)
+Inv-loop book level answers assumed₀ known₀ order₀ rules front₀ left₀ p₀ i₀ assumed known order front left p i =
+    (i ≤ rules) × (front < 2049) × (p < 2049) × (length order ≡ 2049) × (left ≤ left₀)
+    × Searched book level answers assumed known left
 
 abbrev μ-loop : tie.MeasureT-loop
-μ-loop book answers assumed₀ order used rules end known₀ j₀ assumed known j = end - j
+μ-loop book level answers assumed₀ known₀ order₀ rules front₀ left₀ p₀ i₀ assumed known order front left p i =
+    rules - i
 
 pub try-order-spec : {M : Type 1} → statement M
 try-order-spec =
     tie.close
-    (tie.spec Inv-loop μ-loop (λ c κs. search (needs, trying)) (λ c κs. search (needs, trying))
-    (λ c. search (needs, trying)) (λ c. search (needs, trying)) (λ c. search (needs, trying))
-    (λ c κs. search (needs, trying)) (λ c. search (needs, trying)) (λ c. search (needs, trying))
-    (λ c κs. (search needs, search needs, search (needs, trying), search needs, search (needs, trying)))
+    (tie.spec Inv-loop μ-loop (λ c κs. search (needs, trying)) (λ c. search (needs, trying))
+    (λ c κs. search (needs, trying)) (λ c. search (needs, trying)) (λ c κs. search (needs, trying))
     (λ c κs. search (needs, trying)) (λ c. search (needs, trying))
     (λ c. (
       search needs,
-      search (needs, still-long),
-      search (needs, struck-lags),
-      search (needs, struck-follows),
-      search (needs, struck-lower),
+      search (needs, rule-short),
+      search needs,
+      search needs,
+      search (needs, struck-fewer),
+      search (needs, struck-searched),
+    ))
+    (λ c. search (needs, trying))
+    (λ c. (
+      search needs,
+      search needs,
+      search (needs, rule-short),
+      search needs,
+      search (needs, struck-fewer),
+      search (needs, struck-searched),
     ))
     (λ c. search (needs, trying)) (λ c. search (needs, trying)) (λ c. search (needs, trying))
-    (λ c. search (needs, trying)) (λ c. search (needs, trying)) (λ c. search (needs, trying)))
+    (λ c. search (needs, trying)))
