@@ -17,7 +17,8 @@ pub assume-spec : {M : Type 1} → statement M
 assume-spec =
     tie.close
     (tie.spec Inv-loop μ-loop (λ c. search (needs, counting)) (λ c κs. search (needs, counting))
-    (λ c. search (needs, counting)) (λ c. search (needs, counting)) (λ c κs. (search (needs, counting), search (needs, answer-small), search (needs, due-undefined)))
+    (λ c. search (needs, counting)) (λ c. search (needs, counting))
+    (λ c κs. (search (needs, counting), search (needs, answer-small), search (needs, due-undefined)))
     (λ c. search (needs, counting)) (λ c. search (needs, counting)) (λ c. search (needs, counting))
     (λ c. (search needs, search (needs, counted-more, counted-small))) (λ c κs. search (needs, counting))
     (λ c. search (needs, counting)))
