@@ -147,7 +147,19 @@ rule-short b m r R e l = omega (arith, R .framed .counts 2 (omega arith), e, l)
 pub rule-there : (b : List ℕ) (m r : ℕ) → m ≡ countOf b 2 → r < m → r < countOf b 2
 rule-there b m r e l = omega (arith, e, l)
 
-pub ruleset trying = (rule-short, rule-there, struck-searched, struck-fewer, tried-come)
+-- a look that strikes nothing is one of as many as there are rules
+pub try-falls : (b : List ℕ) (n : ℕ) (A B W K : List ℕ) (r left x rules i : ℕ) → Struck b n A B W K r left x →
+    i < rules → x + (rules - (i + 1)) < left + (rules - i)
+try-falls b n A B W K r left x rules i s l = omega (arith, s .fewer, l)
+
+pub ruleset trying = (
+  try-falls,
+  rule-short,
+  rule-there,
+  struck-searched,
+  struck-fewer,
+  tried-come,
+)
 
 pub ruleset passing = (
   rule-short,

@@ -10,18 +10,21 @@ use native.Mathlib.Numerals.{add-one}
 use native.Mathlib.Omega.{arith}
 use lib.Dec.{eqb}
 use lib.ListN.{length, getD, length-replicate, length-set, replicate, set}
-use borrow.Author.Tests.{ne-eqb}
+use borrow.Author.Tests.{eqb-true, ne-eqb}
+use Rattle.laws.proofs.Tests.{by-test, left}
 use Rattle.theory.specs.Truth.{Truth, isFalse, isUndefined}
+use Rattle.theory.proofs.Truth.{undefined-of}
 use Rattle.meaning.specs.Format.{countOf}
 use Rattle.meaning.specs.Reading.{codeOf, truthOf}
+use Rattle.book.specs.Records.{levelRead}
 use Rattle.judge.specs.Held.{held}
 use Rattle.judge.proofs.CodeLaws.{code-back, code-itself}
 use Rattle.steps.specs.Work.{Ready}
-use Rattle.steps.specs.Due.{Due}
+use Rattle.steps.specs.Due.{Due, dueIn, pendingIn}
 use Rattle.steps.specs.Strike.{Assumed, countedTruth, onlyAssumed, waiting}
 use Rattle.steps.proofs.WorkLaws.{few, held-none, held-other, held-same}
 use Rattle.steps.proofs.AssumedLaws.{assumed-start, counts-wiped}
-use Rattle.steps.proofs.StrikeLaws.{false-code, undefined-code, waiting-same}
+use Rattle.steps.proofs.StrikeLaws.{waiting-same}
 
 -- what is assumed at an atom
 module _ (d x : ℕ) where
@@ -31,16 +34,31 @@ module _ (d x : ℕ) where
   pub counted-kept : (d ≡ 3 → ⊥) → x < 3 → x ≡ codeOf (countedTruth d (truthOf x))
   counted-kept f l = rw (ne-eqb d 3 f) (code-itself x l)
 
-  pub counted-one : (v u : ℕ) → x < 3 → v ≡ codeOf (countedTruth d (truthOf x)) → u ≡ cond (eqb v 2 && eqb x 0) 1 0 →
+  pub counted-one : (u : ℕ) → (d ≡ 3 → x ≡ 0) → u ≡ cond (eqb d 3) 1 0 →
       u ≡ cond (isFalse (countedTruth d (truthOf x)) && isUndefined (truthOf x)) 1 0
-  counted-one v u l e p =
-      p ∙ rw (false-code (countedTruth d (truthOf x)) v e, undefined-code (truthOf x) x (code-itself x l))
+  counted-one u z p =
+      by-test (eqb d 3) (λ t. p ∙ rw (t, z (eqb-true d 3 t))) (λ f. p ∙ rw (f, never (truthOf x)))
+    where
+      never : (t : Truth) → (isFalse t && isUndefined t) ≡ false
+      never Truth.undefined = refl
+      never Truth.true = refl
+      never Truth.false = refl
 
   pub counted-sets : (W X : List ℕ) (a v : ℕ) → X ≡ set W a v → v ≡ codeOf (countedTruth d (truthOf x)) →
       X ≡ set W a (codeOf (countedTruth d (truthOf x)))
   counted-sets W X a v q e = q ∙ ap (set W a) e
 
 pub ruleset counts = (counted-false, counted-kept, counted-one, counted-sets)
+
+-- all three steps are due to undefined atoms alone
+pub due-undefined : (b : List ℕ) (n : ℕ) (A D : List ℕ) (a x d : ℕ) → Due b n A D → length A ≡ countOf b 1 →
+    a < length A → x ≡ codeOf (held A a) → d ≡ getD D a 0 → d ≡ 3 → x ≡ 0
+unfolding dueIn pendingIn
+due-undefined b n A D a x d w size l ex ed e =
+    let m : a < countOf b 1 = omega (arith, l, size) in
+    by-test (isUndefined (held A a) && eqb (levelRead b a) n)
+    (λ t. ex ∙ rw (undefined-of (held A a) (left (isUndefined (held A a)) _ t)))
+    (λ f. let z : getD D a 0 ≡ 0 = w .steps a m ∙ rw f in absurd (omega (arith, z, e, ed)))
 
 -- the first m atoms are assumed, so many of them are only assumed false, and the others are undefined
 pub record CountedTo (A D W : List ℕ) (left m : ℕ) : Type 0 where

@@ -1,7 +1,7 @@
 // What step (c) remembers: the rules that have struck in some search, in the order in which they last did. It is a
 // ring: `order[r]` is the rule after rule r, `order[2048]` the first one, 2,048 stands after the last, and 65,535 for
-// a rule that has never struck. Any content is right: a rule strikes only if it must, a try takes no more steps than
-// there are rules, and after the try comes a pass over all of them. So no contract says what an order holds.
+// a rule that has never struck. Any content is right: a rule strikes only if it must, a try ends after as many rules
+// that do not strike as there are, and then comes a pass over all of them. So no contract says what an order holds.
 ghost use mathlib.Core.Path.{_≡_};
 ghost use Prim.Native.Nat.{_<_};
 ghost use lib.ListN.{length};

@@ -100,23 +100,23 @@ fn try_order(
     let mut left = start.left;
     let mut p = front;
     let mut i = 0;
-    while left != 0 {
+    while i < rules {
+        if left == 0 {
+            break;
+        }
         let r = after(order, p);
         if rules <= r {
             break;
         }
-        if rules <= i {
-            break;
-        }
-        i += 1;
-        let now = strike(book, level, answers, assumed, known, left, r);
-        if now < left {
+        let was = left;
+        left = strike(book, level, answers, assumed, known, was, r);
+        if left < was {
             p = advance(order, front, p, r);
             front = r;
         } else {
+            i += 1;
             p = r;
         }
-        left = now;
     }
     Search {
         front,

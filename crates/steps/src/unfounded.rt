@@ -33,14 +33,14 @@ fn one(t: bool) -> u16
 
 // What is assumed of atom a, whose answer is x. Returns 1 if it is only assumed false, else 0.
 fn assume_at(assumed: &mut [u8], a: usize, due: u8, x: u8) -> u16
-    requires { ⌜ (a < length (now assumed)) × (x < 3) ⌝ }
+    requires { ⌜ (a < length (now assumed)) × (x < 3) × (due ≡ 3 → x ≡ 0) ⌝ }
     ensures sets { λ r. ⌜ now (assumed .exit) ≡ set (now (assumed .entry)) a
         (codeOf (countedTruth due (truthOf x))) ⌝ }
     ensures one { λ r. ⌜ r ≡ cond (isFalse (countedTruth due (truthOf x)) && isUndefined (truthOf x)) 1 0 ⌝ }
 {
     let v = counted(due, x);
     set_answer(assumed, a, v);
-    one((v == 2) & (x == 0))
+    one(due == 3)
 }
 
 // What is assumed, and how many atoms are undefined and only assumed false.

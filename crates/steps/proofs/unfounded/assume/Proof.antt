@@ -3,7 +3,7 @@
 use borrow.Author.Needs.{needs}
 use Prim.Native.Nat.{_-_, _≤_}
 use Rattle.steps.proofs.SettleLaws.{answer-small}
-use Rattle.steps.proofs.StartLaws.{CountedTo, counted-more, counted-small, counting}
+use Rattle.steps.proofs.StartLaws.{CountedTo, counted-more, counted-small, counting, due-undefined}
 use Rattle.steps.proofs.unfounded.assume.Statement.{statement}
 use Rattle.steps.proofs.unfounded.assume.Tie as tie
 
@@ -17,7 +17,8 @@ pub assume-spec : {M : Type 1} → statement M
 assume-spec =
     tie.close
     (tie.spec Inv-loop μ-loop (λ c. search (needs, counting)) (λ c κs. search (needs, counting))
-    (λ c. search (needs, counting)) (λ c. search (needs, counting)) (λ c κs. search (needs, answer-small, counting))
+    (λ c. search (needs, counting)) (λ c. search (needs, counting))
+    (λ c κs. (search (needs, counting), search (needs, answer-small), search (needs, due-undefined)))
     (λ c. search (needs, counting)) (λ c. search (needs, counting)) (λ c. search (needs, counting))
     (λ c. (search needs, search (needs, counted-more, counted-small))) (λ c κs. search (needs, counting))
     (λ c. search (needs, counting)))
