@@ -6,28 +6,10 @@ use native.Mathlib.Omega.{arith}
 use lib.IntN.{ℤ}
 use lib.ListN.{getD, drop}
 use lib.Seq.{getD-drop}
-use Rattle.meaning.specs.Format.{
-  atomAt,
-  body,
-  comparisonAt,
-  countOf,
-  elementAt,
-  hypothesisAt,
-  i32At,
-  noAtom,
-  noComparison,
-  noElement,
-  noHypothesis,
-  noPredicate,
-  noRule,
-  predicateAt,
-  ruleAt,
-  signed,
-  tables,
-  u16At,
-  u32At,
-  u8At,
-}
+use Rattle.meaning.specs.Format.{atomAt, atomCount, body, comparisonAt, comparisonCount, countOf, elementAt}
+use Rattle.meaning.specs.Format.{elementCount, hypothesisAt, hypothesisCount, i32At, noAtom, noComparison, noElement}
+use Rattle.meaning.specs.Format.{noHypothesis, noPredicate, noRule, predicateAt, predicateCount, ruleAt, ruleCount}
+use Rattle.meaning.specs.Format.{signed, tables, u16At, u32At, u8At}
 use Rattle.meaning.proofs.Bytes.{body-at}
 use Rattle.book.specs.Framed.{Place}
 use Rattle.book.specs.Records.{atomIn, comparisonIn, elementIn, hypothesisIn, predicateIn, ruleIn}
@@ -62,76 +44,81 @@ module _ {X Y : Type 0} (read : List ℕ → X) (d : X) (k : ℕ) (field : X →
       e ∙ ap (λ (m : ℕ). field (read (drop m b))) (p .is) ∙ ap field (sym (body-at read d b k i l))
 
 module _ (b : List ℕ) (i at : ℕ) where
-  pub predicate-kind : (v : ℕ) → Place b 0 i at → i < countOf b 0 → v ≡ u8At b at → v ≡ predicateIn b i .kind
+  pub predicate-kind : (v : ℕ) → Place b 0 i at → i < predicateCount b → v ≡ u8At b at → v ≡ predicateIn b i .kind
   unfolding tables
   predicate-kind v p l e = of-record predicateAt noPredicate 0 (λ x. x .kind) b i at v p l (e ∙ byte-first b at)
 
-  pub predicate-level : (v : ℕ) → Place b 0 i at → i < countOf b 0 → v ≡ u8At b (at + 1) → v ≡ predicateIn b i .level
+  pub predicate-level : (v : ℕ) → Place b 0 i at → i < predicateCount b → v ≡ u8At b (at + 1) →
+      v ≡ predicateIn b i .level
   unfolding tables
   predicate-level v p l e = of-record predicateAt noPredicate 0 (λ x. x .level) b i at v p l (e ∙ byte-from b at 1)
 
-  pub atom-predicate : (v : ℕ) → Place b 1 i at → i < countOf b 1 → v ≡ u16At b at → v ≡ atomIn b i .predicate
+  pub atom-predicate : (v : ℕ) → Place b 1 i at → i < atomCount b → v ≡ u16At b at → v ≡ atomIn b i .predicate
   unfolding tables
   atom-predicate v p l e = of-record atomAt noAtom 1 (λ x. x .predicate) b i at v p l (e ∙ word-first b at)
 
-  pub atom-given : (v : ℕ) → Place b 1 i at → i < countOf b 1 → v ≡ u8At b (at + 2) → v ≡ atomIn b i .given
+  pub atom-given : (v : ℕ) → Place b 1 i at → i < atomCount b → v ≡ u8At b (at + 2) → v ≡ atomIn b i .given
   unfolding tables
   atom-given v p l e = of-record atomAt noAtom 1 (λ x. x .given) b i at v p l (e ∙ byte-from b at 2)
 
-  pub rule-head : (v : ℕ) → Place b 2 i at → i < countOf b 2 → v ≡ u16At b at → v ≡ ruleIn b i .head
+  pub rule-head : (v : ℕ) → Place b 2 i at → i < ruleCount b → v ≡ u16At b at → v ≡ ruleIn b i .head
   unfolding tables
   rule-head v p l e = of-record ruleAt noRule 2 (λ x. x .head) b i at v p l (e ∙ word-first b at)
 
-  pub rule-first : (v : ℕ) → Place b 2 i at → i < countOf b 2 → v ≡ u16At b (at + 2) → v ≡ ruleIn b i .first
+  pub rule-first : (v : ℕ) → Place b 2 i at → i < ruleCount b → v ≡ u16At b (at + 2) → v ≡ ruleIn b i .first
   unfolding tables
   rule-first v p l e = of-record ruleAt noRule 2 (λ x. x .first) b i at v p l (e ∙ word-from b at 2)
 
-  pub rule-many : (v : ℕ) → Place b 2 i at → i < countOf b 2 → v ≡ u16At b (at + 4) → v ≡ ruleIn b i .many
+  pub rule-many : (v : ℕ) → Place b 2 i at → i < ruleCount b → v ≡ u16At b (at + 4) → v ≡ ruleIn b i .many
   unfolding tables
   rule-many v p l e = of-record ruleAt noRule 2 (λ x. x .many) b i at v p l (e ∙ word-from b at 4)
 
-  pub hypothesis-sort : (v : ℕ) → Place b 3 i at → i < countOf b 3 → v ≡ u8At b at → v ≡ hypothesisIn b i .sort
+  pub hypothesis-sort : (v : ℕ) → Place b 3 i at → i < hypothesisCount b → v ≡ u8At b at → v ≡ hypothesisIn b i .sort
   unfolding tables
   hypothesis-sort v p l e = of-record hypothesisAt noHypothesis 3 (λ x. x .sort) b i at v p l (e ∙ byte-first b at)
 
-  pub hypothesis-index : (v : ℕ) → Place b 3 i at → i < countOf b 3 → v ≡ u16At b (at + 1) → v ≡ hypothesisIn b i .index
+  pub hypothesis-index : (v : ℕ) → Place b 3 i at → i < hypothesisCount b → v ≡ u16At b (at + 1) →
+      v ≡ hypothesisIn b i .index
   unfolding tables
   hypothesis-index v p l e = of-record hypothesisAt noHypothesis 3 (λ x. x .index) b i at v p l (e ∙ word-from b at 1)
 
-  pub comparison-aggregate : (v : ℕ) → Place b 4 i at → i < countOf b 4 → v ≡ u8At b at →
+  pub comparison-aggregate : (v : ℕ) → Place b 4 i at → i < comparisonCount b → v ≡ u8At b at →
       v ≡ comparisonIn b i .aggregate
   unfolding tables
   comparison-aggregate v p l e =
       of-record comparisonAt noComparison 4 (λ x. x .aggregate) b i at v p l (e ∙ byte-first b at)
 
-  pub comparison-relation : (v : ℕ) → Place b 4 i at → i < countOf b 4 → v ≡ u8At b (at + 1) →
+  pub comparison-relation : (v : ℕ) → Place b 4 i at → i < comparisonCount b → v ≡ u8At b (at + 1) →
       v ≡ comparisonIn b i .relation
   unfolding tables
   comparison-relation v p l e =
       of-record comparisonAt noComparison 4 (λ x. x .relation) b i at v p l (e ∙ byte-from b at 1)
 
-  pub comparison-bound : (v : ℤ) → Place b 4 i at → i < countOf b 4 → v ≡ i32At b (at + 2) → v ≡ comparisonIn b i .bound
+  pub comparison-bound : (v : ℤ) → Place b 4 i at → i < comparisonCount b → v ≡ i32At b (at + 2) →
+      v ≡ comparisonIn b i .bound
   unfolding tables
   comparison-bound v p l e =
       of-record comparisonAt noComparison 4 (λ x. x .bound) b i at v p l (e ∙ ap signed (long-from b at 2))
 
-  pub comparison-first : (v : ℕ) → Place b 4 i at → i < countOf b 4 → v ≡ u16At b (at + 6) → v ≡ comparisonIn b i .first
+  pub comparison-first : (v : ℕ) → Place b 4 i at → i < comparisonCount b → v ≡ u16At b (at + 6) →
+      v ≡ comparisonIn b i .first
   unfolding tables
   comparison-first v p l e = of-record comparisonAt noComparison 4 (λ x. x .first) b i at v p l (e ∙ word-from b at 6)
 
-  pub comparison-many : (v : ℕ) → Place b 4 i at → i < countOf b 4 → v ≡ u16At b (at + 8) → v ≡ comparisonIn b i .many
+  pub comparison-many : (v : ℕ) → Place b 4 i at → i < comparisonCount b → v ≡ u16At b (at + 8) →
+      v ≡ comparisonIn b i .many
   unfolding tables
   comparison-many v p l e = of-record comparisonAt noComparison 4 (λ x. x .many) b i at v p l (e ∙ word-from b at 8)
 
-  pub element-sign : (v : ℕ) → Place b 5 i at → i < countOf b 5 → v ≡ u8At b at → v ≡ elementIn b i .sign
+  pub element-sign : (v : ℕ) → Place b 5 i at → i < elementCount b → v ≡ u8At b at → v ≡ elementIn b i .sign
   unfolding tables
   element-sign v p l e = of-record elementAt noElement 5 (λ x. x .sign) b i at v p l (e ∙ byte-first b at)
 
-  pub element-atom : (v : ℕ) → Place b 5 i at → i < countOf b 5 → v ≡ u16At b (at + 1) → v ≡ elementIn b i .atom
+  pub element-atom : (v : ℕ) → Place b 5 i at → i < elementCount b → v ≡ u16At b (at + 1) → v ≡ elementIn b i .atom
   unfolding tables
   element-atom v p l e = of-record elementAt noElement 5 (λ x. x .atom) b i at v p l (e ∙ word-from b at 1)
 
-  pub element-weight : (v : ℤ) → Place b 5 i at → i < countOf b 5 → v ≡ i32At b (at + 3) → v ≡ elementIn b i .weight
+  pub element-weight : (v : ℤ) → Place b 5 i at → i < elementCount b → v ≡ i32At b (at + 3) → v ≡ elementIn b i .weight
   unfolding tables
   element-weight v p l e =
       of-record elementAt noElement 5 (λ x. x .weight) b i at v p l (e ∙ ap signed (long-from b at 3))

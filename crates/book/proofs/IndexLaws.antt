@@ -9,19 +9,14 @@ use lib.Dec.{leb, ltb}
 use lib.ListN.{length}
 use borrow.Author.Tests.{leb-false, ltb-false}
 use Rattle.laws.proofs.Tests.{either-fails}
-use Rattle.meaning.specs.Format.{Tables, countOf, noAtom, noComparison, noElement, noHypothesis, noRule, tables}
+use Rattle.meaning.specs.Format.{Tables, noAtom, noComparison, noElement, noHypothesis, noRule, ruleCount, tables}
 use Rattle.meaning.specs.Refusal.{refusal5, stray, strayAtom, strayComparison, strayElement, strayHypothesis, strayRule}
 use Rattle.meaning.proofs.Absent.{clear-at, none-each}
 use Rattle.meaning.proofs.Bytes.{atoms-length}
 use Rattle.book.specs.Framed.{Indexed}
 use Rattle.book.specs.Records.{ruleIn}
-use Rattle.book.proofs.Counts.{
-  comparisons-length,
-  elements-length,
-  hypotheses-length,
-  predicates-length,
-  rules-length,
-}
+use Rattle.book.proofs.Counts.{comparisons-length, elements-length, hypotheses-length, predicates-length}
+use Rattle.book.proofs.Counts.{rules-length}
 
 pub indexed : (b : List ℕ) → refusal5 (tables b) ≡ none → Indexed b
 unfolding refusal5
@@ -41,7 +36,7 @@ indexed b e =
     let comparison-clear =
     clear-at 5 5 (strayComparison (length (t .elements))) noComparison (t .comparisons) comparisons in
     let element-clear = clear-at 5 6 (strayElement (length (t .atoms))) noElement (t .elements) elements in
-    let rule-fails : (r : ℕ) → r < countOf b 2 →
+    let rule-fails : (r : ℕ) → r < ruleCount b →
     (leb (length (t .atoms)) (ruleIn b r .head) ≡ false) ×
     (ltb (length (t .hypotheses)) (ruleIn b r .first + ruleIn b r .many) ≡ false) =
     λ r l. either-fails _ _ (rule-clear r (omega (arith, l, rules-length b))) in

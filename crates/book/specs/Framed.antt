@@ -6,7 +6,8 @@ use mathlib.Core.List.{List}
 use Prim.Native.Nat.{ℕ, _+_, _*_, _<_, _≤_}
 use lib.Dec.{ltb}
 use lib.ListN.{length, getD}
-use Rattle.meaning.specs.Format.{contents, countOf, end, limits, offsetOf, sizes, start}
+use Rattle.meaning.specs.Format.{atomCount, comparisonCount, contents, countOf, elementCount, end, hypothesisCount}
+use Rattle.meaning.specs.Format.{limits, offsetOf, predicateCount, ruleCount, sizes, start}
 use Rattle.book.specs.Records.{atomIn, comparisonIn, elementIn, hypothesisIn, ruleIn}
 
 -- the contents are there, the counts within their limits, each body starts where the one before ends, and the last ends
@@ -24,13 +25,13 @@ pub record Place (b : List ℕ) (k i at : ℕ) : Type 0 where
 
 -- what the absence of refusal 5 comes to: every index is in its table, every range ends in it
 pub record Indexed (b : List ℕ) : Type 0 where
-  pub atom : (a : ℕ) → a < countOf b 1 → atomIn b a .predicate < countOf b 0
-  pub head : (r : ℕ) → r < countOf b 2 → ruleIn b r .head < countOf b 1
-  pub rule : (r : ℕ) → r < countOf b 2 → ruleIn b r .first + ruleIn b r .many ≤ countOf b 3
-  pub hypothesis : (h : ℕ) → h < countOf b 3 →
-      hypothesisIn b h .index < cond (ltb (hypothesisIn b h .sort) 2) (countOf b 1) (countOf b 4)
-  pub comparison : (c : ℕ) → c < countOf b 4 → comparisonIn b c .first + comparisonIn b c .many ≤ countOf b 5
-  pub element : (e : ℕ) → e < countOf b 5 → elementIn b e .atom < countOf b 1
+  pub atom : (a : ℕ) → a < atomCount b → atomIn b a .predicate < predicateCount b
+  pub head : (r : ℕ) → r < ruleCount b → ruleIn b r .head < atomCount b
+  pub rule : (r : ℕ) → r < ruleCount b → ruleIn b r .first + ruleIn b r .many ≤ hypothesisCount b
+  pub hypothesis : (h : ℕ) → h < hypothesisCount b →
+      hypothesisIn b h .index < cond (ltb (hypothesisIn b h .sort) 2) (atomCount b) (comparisonCount b)
+  pub comparison : (c : ℕ) → c < comparisonCount b → comparisonIn b c .first + comparisonIn b c .many ≤ elementCount b
+  pub element : (e : ℕ) → e < elementCount b → elementIn b e .atom < atomCount b
 
 -- a book that can be worked on: both
 pub record Ready (b : List ℕ) : Type 0 where

@@ -2,34 +2,10 @@
 use mathlib.Core.List.{List}
 use Prim.Native.Nat.{ℕ}
 use lib.ListN.{getD}
-use Rattle.meaning.specs.Format.{
-  Atom,
-  ComparisonRecord,
-  ElementRecord,
-  HypothesisRecord,
-  Predicate,
-  RuleRecord,
-  noAtom,
-  noComparison,
-  noElement,
-  noHypothesis,
-  noPredicate,
-  noRule,
-  tables,
-}
-use Rattle.meaning.specs.Reading.{
-  Comparison,
-  Hypothesis,
-  Kind,
-  Rule,
-  comparisonOf,
-  hypothesisOf,
-  kindAt,
-  levelAt,
-  levelsOf,
-  reading,
-  ruleOf,
-}
+use Rattle.meaning.specs.Format.{Atom, ComparisonRecord, ElementRecord, HypothesisRecord, Predicate, RuleRecord, noAtom}
+use Rattle.meaning.specs.Format.{noComparison, noElement, noHypothesis, noPredicate, noRule, tables}
+use Rattle.meaning.specs.Reading.{Comparison, Hypothesis, Kind, Rule, comparisonOf, hypothesisOf, kindAt, levelAt}
+use Rattle.meaning.specs.Reading.{levelsOf, reading, ruleOf}
 
 -- record i of each table
 abbrev pub predicateIn : List ℕ → ℕ → Predicate

@@ -72,7 +72,7 @@ pub fn count_of(book: &[u8], k: usize) -> usize
 
 // Where a record stands. The offset is in the contents, so nothing is added up.
 pub(crate) fn place(book: &[u8], k: usize, i: usize) -> usize
-    requires { ⌜ Framed (now book) × (k < 6) × (i < countOf (now book) k) ⌝ }
+    requires { let b = now book in ⌜ Framed b × (k < 6) × (i < countOf b k) ⌝ }
     ensures { λ r. ⌜ Place (now (book .entry)) k i r ⌝ }
 {
     offset_of(book, k) + size_of(k) * i

@@ -12,42 +12,12 @@ use borrow.Author.Count.{below-more}
 use borrow.Author.Tests.{eqb-true}
 use Rattle.laws.proofs.Entries.{map-at}
 use Rattle.laws.proofs.Searches.{NoneTo, numbers-none, table-rule}
-use Rattle.meaning.specs.Format.{
-  atomAt,
-  body,
-  comparisonAt,
-  countOf,
-  elementAt,
-  hypothesisAt,
-  noAtom,
-  noComparison,
-  noElement,
-  noHypothesis,
-  noPredicate,
-  noRule,
-  predicateAt,
-  ruleAt,
-  tables,
-}
-use Rattle.meaning.specs.Refusal.{
-  Refusal,
-  atRecord,
-  codeRefusals,
-  firstOf,
-  lowest,
-  refusal4,
-  refusal5,
-  strayAtom,
-  strayComparison,
-  strayElement,
-  strayHypothesis,
-  strayRule,
-  unlistedAtom,
-  unlistedComparison,
-  unlistedElement,
-  unlistedHypothesis,
-  unlistedPredicate,
-}
+use Rattle.meaning.specs.Format.{atomAt, atomCount, body, comparisonAt, comparisonCount, countOf, elementAt}
+use Rattle.meaning.specs.Format.{elementCount, hypothesisAt, hypothesisCount, noAtom, noComparison, noElement}
+use Rattle.meaning.specs.Format.{noHypothesis, noPredicate, noRule, predicateAt, predicateCount, ruleAt, tables}
+use Rattle.meaning.specs.Refusal.{Refusal, atRecord, codeRefusals, firstOf, lowest, refusal4, refusal5, strayAtom}
+use Rattle.meaning.specs.Refusal.{strayComparison, strayElement, strayHypothesis, strayRule, unlistedAtom}
+use Rattle.meaning.specs.Refusal.{unlistedComparison, unlistedElement, unlistedHypothesis, unlistedPredicate}
 use Rattle.meaning.proofs.Bytes.{atoms-length, body-length}
 use Rattle.checks.specs.Faults.{bodies, bodiesRefusal, bodyRefusal, faultIn, numberOf}
 use Rattle.checks.specs.Verdicts.{verdictAmong, verdictOf}
@@ -159,11 +129,11 @@ indices-are b =
       hypotheses-length b,
       comparisons-length b,
       elements-length b,
-      body-is b Stray 1 atomAt noAtom (strayAtom (countOf b 0)) (λ i l. refl),
-      body-is b Stray 2 ruleAt noRule (strayRule (countOf b 1) (countOf b 3)) (λ i l. refl),
-      body-is b Stray 3 hypothesisAt noHypothesis (strayHypothesis (countOf b 1) (countOf b 4)) (λ i l. refl),
-      body-is b Stray 4 comparisonAt noComparison (strayComparison (countOf b 5)) (λ i l. refl),
-      body-is b Stray 5 elementAt noElement (strayElement (countOf b 1)) (λ i l. refl),
+      body-is b Stray 1 atomAt noAtom (strayAtom (predicateCount b)) (λ i l. refl),
+      body-is b Stray 2 ruleAt noRule (strayRule (atomCount b) (hypothesisCount b)) (λ i l. refl),
+      body-is b Stray 3 hypothesisAt noHypothesis (strayHypothesis (atomCount b) (comparisonCount b)) (λ i l. refl),
+      body-is b Stray 4 comparisonAt noComparison (strayComparison (elementCount b)) (λ i l. refl),
+      body-is b Stray 5 elementAt noElement (strayElement (atomCount b)) (λ i l. refl),
     )
 
 -- and so are the answers to checks 4 and 5

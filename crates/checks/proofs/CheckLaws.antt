@@ -7,19 +7,9 @@ use Prim.Native.Nat.{ℕ, _<_, _≤_}
 use native.Mathlib.Omega.{arith}
 use lib.ListN.{length}
 use borrow.Author.Tests.{le-ltb, lt-ltb}
-use Rattle.meaning.specs.Format.{countOf, tables}
-use Rattle.meaning.specs.Refusal.{
-  Refusal,
-  codeRefusals,
-  firstOf,
-  frameRefusals,
-  levelRefusals,
-  recordRefusals,
-  refusal,
-  refusal12,
-  refusal5,
-  roomRefusals,
-}
+use Rattle.meaning.specs.Format.{atomCount, tables}
+use Rattle.meaning.specs.Refusal.{Refusal, codeRefusals, firstOf, frameRefusals, levelRefusals, recordRefusals, refusal}
+use Rattle.meaning.specs.Refusal.{refusal12, refusal5, roomRefusals}
 use Rattle.meaning.proofs.Absent.{none-each}
 use Rattle.meaning.proofs.Bytes.{atoms-length}
 use Rattle.book.specs.Framed.{Framed, Indexed}
@@ -40,7 +30,7 @@ module _ (b : List ℕ) (v : Verdict) where
   passed-indexed p e = indexed b (passed-none (refusal5 (tables b)) v p e)
 
 -- 12
-module _ (b : List ℕ) (room n : ℕ) (e : n ≡ countOf b 1) where
+module _ (b : List ℕ) (room n : ℕ) (e : n ≡ atomCount b) where
   pub room-refused : room < n → Refused 12 0 0 ≡ verdictAmong (roomRefusals (tables b) room)
   unfolding verdictAmong refusal12
   room-refused l = rw (lt-ltb room (length (tables b .atoms)) (omega (arith, e, l, atoms-length b)))

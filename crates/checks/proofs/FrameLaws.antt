@@ -16,18 +16,8 @@ use mir.Val.{Fits}
 use Rattle.laws.specs.Lists.{seek}
 use Rattle.laws.proofs.Searches.{NoneTo, none-more, none-seek, none-start, seek-first, seek-none, table-rule}
 use Rattle.meaning.specs.Format.{contents, countOf, end, limits, offsetOf, sizes, start}
-use Rattle.meaning.specs.Refusal.{
-  astray,
-  atTable,
-  firstOf,
-  frameRefusals,
-  misplaced,
-  refusal1,
-  refusal2,
-  refusal3,
-  refuse,
-  tooMany,
-}
+use Rattle.meaning.specs.Refusal.{astray, atTable, firstOf, frameRefusals, misplaced, refusal1, refusal2, refusal3}
+use Rattle.meaning.specs.Refusal.{refuse, tooMany}
 use Rattle.meaning.proofs.Absent.{none-each, none-if, none-table}
 use Rattle.book.specs.Framed.{Framed}
 use Rattle.checks.specs.Verdicts.{verdictOf}

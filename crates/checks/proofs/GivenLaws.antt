@@ -12,7 +12,7 @@ use borrow.Author.Tests.{eqb-false, eqb-true}
 use Rattle.laws.specs.Lists.{any}
 use Rattle.laws.proofs.Ranges.{any-last, any-map}
 use Rattle.laws.proofs.Tests.{by-test}
-use Rattle.meaning.specs.Format.{RuleRecord, countOf, noAtom, noRule, tables}
+use Rattle.meaning.specs.Format.{RuleRecord, atomCount, noAtom, noRule, ruleCount, tables}
 use Rattle.meaning.specs.Reading.{reading, ruleOf}
 use Rattle.meaning.specs.Refusal.{concluded, givenWrongly, refusal7}
 use Rattle.meaning.proofs.Bytes.{atoms-length}
@@ -29,7 +29,7 @@ headed a r = eqb (r .head) a
 
 pub record MarkedTo (b marks : List ℕ) (m : ℕ) : Type 0 where
   pub room : length marks ≡ 2048
-  pub at : (a : ℕ) → a < countOf b 1 → getD marks a 0 ≡ cond (any (headed a) (take m (tables b .rules))) 1 0
+  pub at : (a : ℕ) → a < atomCount b → getD marks a 0 ≡ cond (any (headed a) (take m (tables b .rules))) 1 0
 
 pub mark-none : (b : List ℕ) → Framed b → MarkedTo b (replicate 2048 0) 0
 mark-none b F = record {
@@ -37,7 +37,7 @@ mark-none b F = record {
   at = λ a l. getD-replicate {A = ℕ} 2048 a 0 0 (omega (arith, F .counts 1 (omega arith)));
 }
 
-module _ (b : List ℕ) (n i h : ℕ) (F : Framed b) (I : Indexed b) (e : n ≡ countOf b 2) (l : i < n)
+module _ (b : List ℕ) (n i h : ℕ) (F : Framed b) (I : Indexed b) (e : n ≡ ruleCount b) (l : i < n)
     (p : h ≡ ruleIn b i .head) where
   pub head-room : h < 2048
   head-room = omega (arith, I .head i (omega arith), F .counts 1 (omega arith))
@@ -57,7 +57,7 @@ module _ (b : List ℕ) (n i h : ℕ) (F : Framed b) (I : Indexed b) (e : n ≡ 
         (λ f. rw (more a, f) (getD-set-other marks h a 1 0 (λ q. eqb-false h a f (sym q)) ∙ M .at a k));
   }
 
-pub mark-all : (b marks : List ℕ) (n i : ℕ) → n ≡ countOf b 2 → n ≤ i → MarkedTo b marks i → Marked b marks
+pub mark-all : (b marks : List ℕ) (n i : ℕ) → n ≡ ruleCount b → n ≤ i → MarkedTo b marks i → Marked b marks
 unfolding reading ruleOf
 mark-all b marks n i e l M =
     record {
@@ -75,7 +75,7 @@ mark-test true = refl
 mark-test false = refl
 
 -- the test at an atom
-module _ (b marks : List ℕ) (a : ℕ) (l : a < countOf b 1) where
+module _ (b marks : List ℕ) (a : ℕ) (l : a < atomCount b) where
   pub mark-there : Framed b → Marked b marks → a < length marks
   mark-there F M = omega (arith, F .counts 1 (omega arith), M .room)
 
@@ -94,18 +94,18 @@ module _ (b marks : List ℕ) (a : ℕ) (l : a < countOf b 1) where
 
 -- the search through the atoms
 given-seek : (b : List ℕ) →
-    Seeks (refusal7 (reading (tables b)) (tables b .atoms)) 7 2 (wrongIn b) (countOf b 1)
+    Seeks (refusal7 (reading (tables b)) (tables b .atoms)) 7 2 (wrongIn b) (atomCount b)
 unfolding refusal7 wrongIn
 given-seek b =
     lowest-is 7 2 (givenWrongly (reading (tables b))) (wrongIn b) noAtom (tables b .atoms) (atoms-length b)
     (λ i l. refl)
 
 pub given-found : (b : List ℕ) →
-    Found (refusal7 (reading (tables b)) (tables b .atoms)) 7 2 (wrongIn b) (countOf b 1)
+    Found (refusal7 (reading (tables b)) (tables b .atoms)) 7 2 (wrongIn b) (atomCount b)
 given-found b = found (given-seek b)
 
 pub given-through : (b : List ℕ) →
-    Through (refusal7 (reading (tables b)) (tables b .atoms)) (wrongIn b) (countOf b 1)
+    Through (refusal7 (reading (tables b)) (tables b .atoms)) (wrongIn b) (atomCount b)
 given-through b = through (given-seek b)
 
 pub ruleset checking = (turns, given-found, given-through)

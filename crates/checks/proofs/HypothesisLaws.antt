@@ -7,7 +7,7 @@ use native.Mathlib.Nat.{max-zero}
 use native.Mathlib.Omega.{arith}
 use lib.ListN.{length, getD}
 use borrow.Author.Tests.{le-ltb, lt-ltb}
-use Rattle.meaning.specs.Format.{countOf, tables}
+use Rattle.meaning.specs.Format.{atomCount, comparisonCount, hypothesisCount, tables}
 use Rattle.meaning.specs.Reading.{hypothesisIn, hypothesisOf, isCertain}
 use Rattle.meaning.specs.Refusal.{usesOf}
 use Rattle.book.specs.Framed.{Framed, Indexed}
@@ -46,21 +46,21 @@ pub ruleset limits = (limit-height, limit-sign, limit-certainty)
 module _ (b : List ℕ) (h s i : ℕ) (p : s ≡ records.hypothesisIn b h .sort) (q : i ≡ records.hypothesisIn b h .index)
   where
     -- what it points at is there
-    module _ (I : Indexed b) (l : h < countOf b 3) where
-      atom-there : s < 2 → i < countOf b 1
+    module _ (I : Indexed b) (l : h < hypothesisCount b) where
+      atom-there : s < 2 → i < atomCount b
       atom-there m = rw (← p, ← q, lt-ltb s 2 m) at (I .hypothesis h l)
 
-      pub plain-there : s ≡ 0 → i < countOf b 1
+      pub plain-there : s ≡ 0 → i < atomCount b
       plain-there e = atom-there (omega (arith, e))
 
-      pub negated-there : s ≡ 1 → i < countOf b 1
+      pub negated-there : s ≡ 1 → i < atomCount b
       negated-there e = atom-there (omega (arith, e))
 
-      comparison-there : (s ≡ 0 → ⊥) → (s ≡ 1 → ⊥) → i < countOf b 4
+      comparison-there : (s ≡ 0 → ⊥) → (s ≡ 1 → ⊥) → i < comparisonCount b
       comparison-there m n = rw (← p, ← q, le-ltb s 2 (omega (arith, m, n))) at (I .hypothesis h l)
 
       pub found-there : (aspect : Aspect) (found : List ℕ) → (s ≡ 0 → ⊥) → (s ≡ 1 → ⊥) → Framed b →
-          Reaches b aspect (countOf b 4) found → i < length found
+          Reaches b aspect (comparisonCount b) found → i < length found
       found-there aspect found m n F R =
           omega (arith, comparison-there m n, F .counts 4 (omega arith), R .room)
 
@@ -75,8 +75,8 @@ module _ (b : List ℕ) (h s i : ℕ) (p : s ≡ records.hypothesisIn b h .sort)
       unfolding hypothesisReach usesOf hypothesisOf highest
       by-negation e r = r ∙ rw (← p, e, q) (sym (max-zero _))
 
-      pub by-comparison : (found : List ℕ) → (s ≡ 0 → ⊥) → (s ≡ 1 → ⊥) → Indexed b → h < countOf b 3 →
-          Reaches b aspect (countOf b 4) found → v ≡ getD found i 0 → v ≡ hypothesisReach b aspect h
+      pub by-comparison : (found : List ℕ) → (s ≡ 0 → ⊥) → (s ≡ 1 → ⊥) → Indexed b → h < hypothesisCount b →
+          Reaches b aspect (comparisonCount b) found → v ≡ getD found i 0 → v ≡ hypothesisReach b aspect h
       unfolding comparisonReach hypothesisReach hypothesisOf
       by-comparison found m n I l R r = r ∙ R .at i (comparison-there I l m n) ∙ rw (← p, ← q) (sorted s m n)
         where

@@ -13,19 +13,10 @@ use Rattle.laws.specs.Lists.{In, any}
 use Rattle.laws.proofs.Entries.{any-map, any-none, map-at}
 use Rattle.laws.proofs.Numbers.{same-test}
 use Rattle.laws.proofs.Tests.{and-none, by-test}
-use Rattle.meaning.specs.Format.{countOf, noRule, tables}
+use Rattle.meaning.specs.Format.{noRule, ruleCount, tables}
 use Rattle.meaning.specs.Reading.{Rule, isCertain, levelsOf, reading, ruleOf}
-use Rattle.meaning.specs.Refusal.{
-  lowest,
-  ownNonPositive,
-  refusal10,
-  refusal11,
-  refusal9,
-  uses,
-  usesHigher,
-  usesNonPositively,
-  usesUncertain,
-}
+use Rattle.meaning.specs.Refusal.{lowest, ownNonPositive, refusal10, refusal11, refusal9, uses, usesHigher}
+use Rattle.meaning.specs.Refusal.{usesNonPositively, usesUncertain}
 use Rattle.meaning.proofs.Absent.{clear-at}
 use Rattle.book.specs.Records.{kindRead, levelRead, ruleIn, ruleRead}
 use Rattle.book.proofs.Counts.{rules-length}
@@ -94,19 +85,19 @@ noRead = record { head = 0; body = [] }
 
 module _ (b : List ℕ) where
   -- rule r, in the list of those read
-  read-at : (r : ℕ) → r < countOf b 2 → (fault : ℕ → Rule → Bool) →
+  read-at : (r : ℕ) → r < ruleCount b → (fault : ℕ → Rule → Bool) →
       fault r (getD (reading (tables b) .rules) r noRead) ≡ fault r (ruleRead b r)
   unfolding reading
   read-at r l fault =
       let m : r < length (tables b .rules) = omega (arith, l, rules-length b) in
       ap (fault r) (map-at (ruleOf (tables b)) noRule noRead (tables b .rules) r m)
 
-  read-length : length (reading (tables b) .rules) ≡ countOf b 2
+  read-length : length (reading (tables b) .rules) ≡ ruleCount b
   unfolding reading
   read-length = length-map (tables b .rules) (ruleOf (tables b)) ∙ rules-length b
 
   rules-are : (aspect : Aspect) (fault : ℕ → Rule → Bool) →
-      ((r : ℕ) → r < countOf b 2 → fault r (ruleRead b r) ≡ ruleFault b aspect r) →
+      ((r : ℕ) → r < ruleCount b → fault r (ruleRead b r) ≡ ruleFault b aspect r) →
       ruleRefusal b aspect ≡ lowest (numberOf aspect) 3 fault (reading (tables b) .rules)
   unfolding ruleRefusal
   rules-are aspect fault same =

@@ -9,7 +9,7 @@ use lib.ListN.{length, getD, take}
 use lib.Seq.{getD-take, length-take-le}
 use Rattle.laws.proofs.Entries.{entry-any, getD-in, in-getD, none-any}
 use Rattle.laws.proofs.Searches.{NoneTo, none-next, none-start}
-use Rattle.meaning.specs.Format.{Predicate, countOf, noPredicate, tables}
+use Rattle.meaning.specs.Format.{Predicate, noPredicate, predicateCount, tables}
 use Rattle.meaning.specs.Reading.{isCertain, kindOf}
 use Rattle.meaning.specs.Refusal.{mixed, mixedBelow, refusal8}
 use Rattle.book.specs.Records.{predicateIn}
@@ -34,7 +34,7 @@ mixed-with b i j v p = p
 unfoldable pub mixedAt : List ℕ → ℕ → Bool
 mixedAt b i = mixedBelow (tables b .predicates) i (predicateIn b i)
 
-module _ (b : List ℕ) (i : ℕ) (l : i < countOf b 0) where
+module _ (b : List ℕ) (i : ℕ) (l : i < predicateCount b) where
   below-length : length (take i (tables b .predicates)) ≡ i
   below-length = length-take-le i (tables b .predicates) (omega (arith, predicates-length b))
 
@@ -59,16 +59,16 @@ module _ (b : List ℕ) (i : ℕ) (l : i < countOf b 0) where
 pub ruleset below = (none-start, none-next, mixed-with, below-found, below-none)
 
 -- the search through all
-mixture-seek : (b : List ℕ) → Seeks (refusal8 (tables b .predicates)) 8 1 (mixedAt b) (countOf b 0)
+mixture-seek : (b : List ℕ) → Seeks (refusal8 (tables b .predicates)) 8 1 (mixedAt b) (predicateCount b)
 unfolding refusal8 mixedAt
 mixture-seek b =
     lowest-is 8 1 (mixedBelow (tables b .predicates)) (mixedAt b) noPredicate (tables b .predicates)
     (predicates-length b) (λ i l. refl)
 
-pub mixture-found : (b : List ℕ) → Found (refusal8 (tables b .predicates)) 8 1 (mixedAt b) (countOf b 0)
+pub mixture-found : (b : List ℕ) → Found (refusal8 (tables b .predicates)) 8 1 (mixedAt b) (predicateCount b)
 mixture-found b = found (mixture-seek b)
 
-pub mixture-through : (b : List ℕ) → Through (refusal8 (tables b .predicates)) (mixedAt b) (countOf b 0)
+pub mixture-through : (b : List ℕ) → Through (refusal8 (tables b .predicates)) (mixedAt b) (predicateCount b)
 mixture-through b = through (mixture-seek b)
 
 pub mixed-at : (b : List ℕ) (i : ℕ) (v : Bool) → v ≡ mixedBelow (tables b .predicates) i (predicateIn b i) →

@@ -14,7 +14,7 @@ use Rattle.laws.proofs.Entries.{map-at}
 use Rattle.laws.proofs.Ranges.{slice-at}
 use Rattle.laws.proofs.Searches.{NoneTo, none-more}
 use Rattle.laws.proofs.Twice.{pair-twice, twice-none}
-use Rattle.meaning.specs.Format.{countOf, noComparison, noElement, tables}
+use Rattle.meaning.specs.Format.{comparisonCount, elementCount, noComparison, noElement, tables}
 use Rattle.meaning.specs.Reading.{elementsOf}
 use Rattle.meaning.specs.Refusal.{elementAtom, refusal6, repeats}
 use Rattle.book.specs.Framed.{Framed, Indexed}
@@ -33,12 +33,12 @@ repeatsAt b c = repeats (tables b) c (comparisonIn b c)
 pub record Clear (b : List ℕ) (f e i : ℕ) : Type 0 where
   pub least : f ≤ i
   pub most : i ≤ e
-  pub within : e ≤ countOf b 5
+  pub within : e ≤ elementCount b
   pub room : e ≤ 4096
   pub other : (x y : ℕ) → f ≤ x → x < i → x < y → y < e → elementIn b x .atom ≡ elementIn b y .atom → ⊥
 
 module _ (b : List ℕ) where
-  pub clear-none : (f m : ℕ) → f + m ≤ countOf b 5 → Framed b → Clear b f (f + m) f
+  pub clear-none : (f m : ℕ) → f + m ≤ elementCount b → Framed b → Clear b f (f + m) f
   clear-none f m w F =
       record {
         least = omega arith;
@@ -64,7 +64,7 @@ module _ (b : List ℕ) where
 abbrev atomsIn : List ℕ → ℕ → ℕ → List ℕ
 atomsIn b f e = map elementAtom (slice f e (tables b .elements))
 
-module _ (b : List ℕ) (f e : ℕ) (within : e ≤ countOf b 5) where
+module _ (b : List ℕ) (f e : ℕ) (within : e ≤ elementCount b) where
   part-length : length (slice f e (tables b .elements)) ≡ e - f
   part-length = length-slice f e (tables b .elements) (omega (arith, elements-length b))
 
@@ -93,7 +93,7 @@ module _ (b : List ℕ) (f e : ℕ) (within : e ≤ countOf b 5) where
 
 -- a comparison whose elements run from f, m of them
 module _ (b : List ℕ) (c f m : ℕ) (p : f ≡ comparisonIn b c .first) (q : m ≡ comparisonIn b c .many) where
-  pub ends-within : (n : ℕ) → Indexed b → n ≡ countOf b 4 → c < n → f + m ≤ countOf b 5
+  pub ends-within : (n : ℕ) → Indexed b → n ≡ comparisonCount b → c < n → f + m ≤ elementCount b
   ends-within n I e l = omega (arith, I .comparison c (omega arith))
 
   pub comparison-clear : (i : ℕ) → Clear b f (f + m) i → f + m ≤ i → repeatsAt b c ≡ false
@@ -109,17 +109,17 @@ module _ (b : List ℕ) (c f m : ℕ) (p : f ≡ comparisonIn b c .first) (q : m
       rw (← p, ← q) (sym (atoms-pair b f (f + m) (h .within) i j (h .least) k g (sym s ∙ sym u ∙ t)))
 
 -- the search through the comparisons
-pairs-seek : (b : List ℕ) → Seeks (refusal6 (tables b)) 6 5 (repeatsAt b) (countOf b 4)
+pairs-seek : (b : List ℕ) → Seeks (refusal6 (tables b)) 6 5 (repeatsAt b) (comparisonCount b)
 unfolding refusal6 repeatsAt
 pairs-seek b =
     lowest-is 6 5 (repeats (tables b)) (repeatsAt b) noComparison (tables b .comparisons) (comparisons-length b)
     (λ i l. refl)
 
-pub pairs-found : (b : List ℕ) (n c r : ℕ) → n ≡ countOf b 4 → NoneTo (repeatsAt b) c → c < n → true ≡ repeatsAt b c →
-    r ≡ c → Refused 6 5 r ≡ verdictOf (refusal6 (tables b))
+pub pairs-found : (b : List ℕ) (n c r : ℕ) → n ≡ comparisonCount b → NoneTo (repeatsAt b) c → c < n →
+    true ≡ repeatsAt b c → r ≡ c → Refused 6 5 r ≡ verdictOf (refusal6 (tables b))
 pairs-found b n c r e clear l p q = found (pairs-seek b) n c true 6 5 r e clear l p refl refl refl q
 
-pub pairs-through : (b : List ℕ) → Through (refusal6 (tables b)) (repeatsAt b) (countOf b 4)
+pub pairs-through : (b : List ℕ) → Through (refusal6 (tables b)) (repeatsAt b) (comparisonCount b)
 pairs-through b = through (pairs-seek b)
 
 -- for the loop over elements, and for that over comparisons with its two ways out

@@ -13,7 +13,7 @@ use lib.Seq.{slice}
 use borrow.Author.Tests.{ne-eqb}
 use Rattle.laws.proofs.Lasts.{map-more, slice-more, slice-start}
 use Rattle.laws.proofs.Stores.{stored}
-use Rattle.meaning.specs.Format.{ElementRecord, countOf, noElement, tables}
+use Rattle.meaning.specs.Format.{ElementRecord, atomCount, comparisonCount, elementCount, noElement, tables}
 use Rattle.meaning.specs.Reading.{aggregateOf, comparisonOf, elementOf, elementsOf, isCertain, literalOf, relationOf}
 use Rattle.meaning.specs.Refusal.{Use, elementUse, grows, positiveIn, shrinks, usesOf}
 use Rattle.book.specs.Framed.{Framed, Indexed}
@@ -62,7 +62,7 @@ module _ (b : List ℕ) (aspect : Aspect) (plain negated : Bool) (e a s v : ℕ)
       v ≡ reachOf b aspect (usedAs plain negated (elementIn b e))
   reach-negated n r = rw (← q, ne-eqb s 0 n, ← p) r
 
-  pub element-there : Indexed b → e < countOf b 5 → a < countOf b 1
+  pub element-there : Indexed b → e < elementCount b → a < atomCount b
   element-there I l = rw p (I .element e l)
 
 pub ruleset bySign = (reach-plain, reach-negated, element-there)
@@ -111,7 +111,7 @@ module _ (b : List ℕ) (aspect : Aspect) (plain negated : Bool) (first : ℕ) w
       sym (ap (λ (i : ℕ). highest b aspect (map (usedAs plain negated) (slice first i (tables b .elements)))) z ∙
       ap (λ xs. highest b aspect (map (usedAs plain negated) xs)) (slice-start first (tables b .elements)))
 
-  step : (i : ℕ) → first + i < countOf b 5 →
+  step : (i : ℕ) → first + i < elementCount b →
       reachTo b aspect plain negated first (first + (i + 1)) ≡
       max (reachTo b aspect plain negated first (first + i))
       (reachOf b aspect (usedAs plain negated (elementIn b (first + i))))
@@ -124,7 +124,7 @@ module _ (b : List ℕ) (aspect : Aspect) (plain negated : Bool) (first : ℕ) w
       (map-more (usedAs plain negated) (slice first (first + i) xs) (getD xs (first + i) noElement)) ∙
       highest-more b aspect _ _
 
-  pub to-more : (e m v n : ℕ) → first ≤ e → e < countOf b 5 → m ≡ reachTo b aspect plain negated first e →
+  pub to-more : (e m v n : ℕ) → first ≤ e → e < elementCount b → m ≡ reachTo b aspect plain negated first e →
       v ≡ reachOf b aspect (usedAs plain negated (elementIn b e)) → n ≡ max m v →
       n ≡ reachTo b aspect plain negated first (e + 1)
   to-more e m v n l k p q r =
@@ -144,8 +144,8 @@ module _ (b : List ℕ) (aspect : Aspect) (plain negated : Bool) (first : ℕ) w
       r ∙ rw (ep, en, eg, ex, z, p, q)
       (ap (highest b aspect) (used-is b c (slice (y .first) (y .first + y .many) (tables b .elements))))
 
-pub elements-in : (b : List ℕ) (c first many : ℕ) → Indexed b → c < countOf b 4 → first ≡ comparisonIn b c .first →
-    many ≡ comparisonIn b c .many → first + many ≤ countOf b 5
+pub elements-in : (b : List ℕ) (c first many : ℕ) → Indexed b → c < comparisonCount b →
+    first ≡ comparisonIn b c .first → many ≡ comparisonIn b c .many → first + many ≤ elementCount b
 elements-in b c first many I l p q = omega (arith, I .comparison c l, p, q)
 
 pub ruleset elements = (elements-in, to-first, to-more, to-end)
@@ -165,12 +165,12 @@ module _ (b : List ℕ) (aspect : Aspect) where
             (λ q. rw (← q, e) k) (λ o. R .at x (omega (arith, n, o)));
       }
 
-  pub reaches-all : (found : List ℕ) (n c : ℕ) → n ≡ countOf b 4 → c ≤ n → n ≤ c → Reaches b aspect c found →
-      Reaches b aspect (countOf b 4) found
-  reaches-all found n c e l k R = let z : countOf b 4 ≡ c = omega arith in rw z R
+  pub reaches-all : (found : List ℕ) (n c : ℕ) → n ≡ comparisonCount b → c ≤ n → n ≤ c → Reaches b aspect c found →
+      Reaches b aspect (comparisonCount b) found
+  reaches-all found n c e l k R = let z : comparisonCount b ≡ c = omega arith in rw z R
 
 -- every comparison has its place
-pub comparisons-few : (b : List ℕ) (n : ℕ) → n ≡ countOf b 4 → Framed b → n ≤ 512
+pub comparisons-few : (b : List ℕ) (n : ℕ) → n ≡ comparisonCount b → Framed b → n ≤ 512
 comparisons-few b n e F = omega (arith, F .counts 4 (omega arith))
 
 pub ruleset comparisons = (reaches-none, reaches-more, reaches-all, comparisons-few)

@@ -5,7 +5,7 @@ use mathlib.Core.List.{List}
 use Prim.Native.Nat.{ℕ, zero, suc, _+_, _<_, _≤_}
 use lib.Dec.{leb, ltb}
 use borrow.Author.Tests.{le-ltb, lt-ltb}
-use Rattle.meaning.specs.Format.{countOf}
+use Rattle.meaning.specs.Format.{atomCount, comparisonCount, countOf, elementCount, hypothesisCount, predicateCount}
 use Rattle.checks.specs.Faults.{faultIn}
 use Rattle.book.specs.Records.{atomIn, comparisonIn, elementIn, hypothesisIn, predicateIn, ruleIn}
 use Rattle.checks.specs.declared.records.Fault.{Fault}
@@ -40,26 +40,26 @@ module _ (b : List ℕ) (k i : ℕ) where
   listed-element x e p = rw (e, p)
 
   -- check 5 likewise: a stray index is no smaller than the count, a stray range ends past it
-  pub stray-atom : (n x : ℕ) → k ≡ 1 → n ≡ countOf b 0 → x ≡ atomIn b i .predicate → leb n x ≡ faultIn b Stray k i
+  pub stray-atom : (n x : ℕ) → k ≡ 1 → n ≡ predicateCount b → x ≡ atomIn b i .predicate → leb n x ≡ faultIn b Stray k i
   unfolding faultIn
   stray-atom n x e p q = rw (e, p, q)
 
-  pub stray-rule : (n m x y z : ℕ) → k ≡ 2 → n ≡ countOf b 1 → m ≡ countOf b 3 → x ≡ ruleIn b i .head →
+  pub stray-rule : (n m x y z : ℕ) → k ≡ 2 → n ≡ atomCount b → m ≡ hypothesisCount b → x ≡ ruleIn b i .head →
       y ≡ ruleIn b i .first → z ≡ ruleIn b i .many → (leb n x || ltb m (y + z)) ≡ faultIn b Stray k i
   unfolding faultIn
   stray-rule n m x y z e p q r s u = rw (e, p, q, r, s, u)
 
   pub stray-hypothesis : (s n x : ℕ) → k ≡ 3 → s ≡ hypothesisIn b i .sort →
-      n ≡ cond (ltb s 2) (countOf b 1) (countOf b 4) → x ≡ hypothesisIn b i .index → leb n x ≡ faultIn b Stray k i
+      n ≡ cond (ltb s 2) (atomCount b) (comparisonCount b) → x ≡ hypothesisIn b i .index → leb n x ≡ faultIn b Stray k i
   unfolding faultIn
   stray-hypothesis s n x e r p q = rw (e, p, q, r)
 
-  pub stray-comparison : (n x y : ℕ) → k ≡ 4 → n ≡ countOf b 5 → x ≡ comparisonIn b i .first →
+  pub stray-comparison : (n x y : ℕ) → k ≡ 4 → n ≡ elementCount b → x ≡ comparisonIn b i .first →
       y ≡ comparisonIn b i .many → ltb n (x + y) ≡ faultIn b Stray k i
   unfolding faultIn
   stray-comparison n x y e p q r = rw (e, p, q, r)
 
-  pub stray-element : (n x : ℕ) → k ≡ 5 → n ≡ countOf b 1 → x ≡ elementIn b i .atom → leb n x ≡ faultIn b Stray k i
+  pub stray-element : (n x : ℕ) → k ≡ 5 → n ≡ atomCount b → x ≡ elementIn b i .atom → leb n x ≡ faultIn b Stray k i
   unfolding faultIn
   stray-element n x e p q = rw (e, p, q)
 
@@ -93,12 +93,12 @@ pub ruleset strayed =
     (count-at, stray-atom, stray-rule, stray-hypothesis, stray-comparison, stray-element, stray-rest)
 
 -- what a hypothesis points among
-pub among-atoms : (b : List ℕ) (sort n : ℕ) → sort < 2 → n ≡ countOf b 1 →
-    n ≡ cond (ltb sort 2) (countOf b 1) (countOf b 4)
+pub among-atoms : (b : List ℕ) (sort n : ℕ) → sort < 2 → n ≡ atomCount b →
+    n ≡ cond (ltb sort 2) (atomCount b) (comparisonCount b)
 among-atoms b sort n l e = rw (lt-ltb sort 2 l) e
 
-pub among-comparisons : (b : List ℕ) (sort n : ℕ) → 2 ≤ sort → n ≡ countOf b 4 →
-    n ≡ cond (ltb sort 2) (countOf b 1) (countOf b 4)
+pub among-comparisons : (b : List ℕ) (sort n : ℕ) → 2 ≤ sort → n ≡ comparisonCount b →
+    n ≡ cond (ltb sort 2) (atomCount b) (comparisonCount b)
 among-comparisons b sort n l e = rw (le-ltb sort 2 l) e
 
 -- which of the two it is

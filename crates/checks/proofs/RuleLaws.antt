@@ -11,23 +11,15 @@ use borrow.Author.Tests.{le-ltb, lt-ltb, ltb-false, ltb-true, not-false}
 use Rattle.laws.specs.Lists.{any}
 use Rattle.laws.proofs.Ranges.{NoneBetween, any-gather, any-map, between-more, between-start, slice-none, slice-some}
 use Rattle.laws.proofs.Tests.{and-none, by-test, fails-of, not-of}
-use Rattle.meaning.specs.Format.{HypothesisRecord, countOf, noHypothesis, tables}
+use Rattle.meaning.specs.Format.{HypothesisRecord, atomCount, hypothesisCount, noHypothesis, ruleCount, tables}
 use Rattle.meaning.specs.Reading.{hypothesisIn, ruleOf}
 use Rattle.meaning.specs.Refusal.{Use, uses, usesOf}
 use Rattle.book.specs.Framed.{Indexed}
 use Rattle.book.specs.Records as records
 use Rattle.book.specs.Records.{ruleIn, ruleRead}
 use Rattle.book.proofs.Counts.{hypotheses-length}
-use Rattle.checks.specs.Uses.{
-  asksOf,
-  highest,
-  hypothesisReach,
-  limitOf,
-  reachOf,
-  ruleFault,
-  ruleRefusal,
-  numberOf,
-}
+use Rattle.checks.specs.Uses.{asksOf, highest, hypothesisReach, limitOf, reachOf, ruleFault, ruleRefusal}
+use Rattle.checks.specs.Uses.{numberOf}
 use Rattle.checks.specs.declared.reaches.Aspect.{Aspect}
 use Rattle.checks.proofs.LowestLaws.{Found, Seeks, Through, found, through, turns}
 
@@ -82,7 +74,7 @@ module _ (b : List ℕ) (aspect : Aspect) (r : ℕ) where
     unfolding above hypothesisReach
     above-at k h o = rw (o, e) (sym (above-highest b aspect limit (usesOf (records.hypothesisRead b h))))
 
-    module _ (first many : ℕ) (I : Indexed b) (l : r < countOf b 2) (p : first ≡ ruleIn b r .first)
+    module _ (first many : ℕ) (I : Indexed b) (l : r < ruleCount b) (p : first ≡ ruleIn b r .first)
         (q : many ≡ ruleIn b r .many) where
       whole : any (λ u. ltb limit (reachOf b aspect u)) (uses (ruleRead b r)) ≡
           any aboveOf (slice first (first + many) (tables b .hypotheses))
@@ -108,26 +100,26 @@ module _ (b : List ℕ) (aspect : Aspect) (r : ℕ) where
           (λ i l s. sym (above-at k i o) ∙ n i l (omega (arith, s, m)))) ∙
           and-none (asksOf b aspect (ruleIn b r .head)))
 
-pub hypotheses-in : (b : List ℕ) (r first many : ℕ) → Indexed b → r < countOf b 2 → first ≡ ruleIn b r .first →
-    many ≡ ruleIn b r .many → first + many ≤ countOf b 3
+pub hypotheses-in : (b : List ℕ) (r first many : ℕ) → Indexed b → r < ruleCount b → first ≡ ruleIn b r .first →
+    many ≡ ruleIn b r .many → first + many ≤ hypothesisCount b
 hypotheses-in b r first many I l p q = omega (arith, I .rule r l, p, q)
 
-pub head-there : (b : List ℕ) (r head : ℕ) → Indexed b → r < countOf b 2 → head ≡ ruleIn b r .head → head < countOf b 1
+pub head-there : (b : List ℕ) (r head : ℕ) → Indexed b → r < ruleCount b → head ≡ ruleIn b r .head → head < atomCount b
 head-there b r head I l e = rw e (I .head r l)
 
 pub ruleset hypotheses = (between-start, within, rule-unasked, rule-found, rule-none, hypotheses-in, head-there)
 
 -- the search through the rules
 rules-seek : (b : List ℕ) (aspect : Aspect) →
-    Seeks (ruleRefusal b aspect) (numberOf aspect) 3 (ruleFault b aspect) (countOf b 2)
+    Seeks (ruleRefusal b aspect) (numberOf aspect) 3 (ruleFault b aspect) (ruleCount b)
 unfolding ruleRefusal
 rules-seek b aspect = record { is = refl }
 
 pub rules-found : (b : List ℕ) (aspect : Aspect) →
-    Found (ruleRefusal b aspect) (numberOf aspect) 3 (ruleFault b aspect) (countOf b 2)
+    Found (ruleRefusal b aspect) (numberOf aspect) 3 (ruleFault b aspect) (ruleCount b)
 rules-found b aspect = found (rules-seek b aspect)
 
-pub rules-through : (b : List ℕ) (aspect : Aspect) → Through (ruleRefusal b aspect) (ruleFault b aspect) (countOf b 2)
+pub rules-through : (b : List ℕ) (aspect : Aspect) → Through (ruleRefusal b aspect) (ruleFault b aspect) (ruleCount b)
 rules-through b aspect = through (rules-seek b aspect)
 
 pub ruleset ruled = (turns, rules-found, rules-through)

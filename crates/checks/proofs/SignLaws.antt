@@ -1,55 +1,23 @@
--- Which elements a comparison uses positively, by the codes of aggregate and relation: document 01, "Refusals and
--- their order", on positive use. Assumes nothing.
-use mathlib.Core.Path.{_≡_, refl}
-use mathlib.Core.Bool.{false, _&&_}
-use Prim.Native.Nat.{ℕ, zero, suc}
-use native.Mathlib.Omega.{arith}
-use lib.Dec.{leb, ltb}
-use borrow.Author.Tests.{le-leb, le-ltb}
+-- Which uses are positive where a code is not listed, and so read as the last. Assumes nothing.
+use mathlib.Core.Path.{_≡_}
+use mathlib.Core.Bool.{Bool, false, true}
+use Prim.Native.Nat.{ℕ}
 use Rattle.meaning.specs.Reading.{aggregateOf, relationOf}
 use Rattle.meaning.specs.Refusal.{grows, isAbove, isBelow, shrinks}
+use Rattle.meaning.proofs.Unlisted.{aggregate-rest, relation-rest}
 
--- which relations are above and below, by their codes
-above-code : (x : ℕ) → leb 4 x ≡ isAbove (relationOf x)
-above-code zero = refl
-above-code (suc zero) = refl
-above-code (suc (suc zero)) = refl
-above-code (suc (suc (suc zero))) = refl
-above-code (suc (suc (suc (suc zero)))) = refl
-above-code (suc (suc (suc (suc (suc zero))))) = refl
-above-code (suc (suc (suc (suc (suc (suc x)))))) =
-    let n : ℕ = suc (suc (suc (suc (suc (suc x))))) in le-leb 4 n (omega arith)
+module _ (x : ℕ) (n0 : x ≡ 0 → ⊥) (n1 : x ≡ 1 → ⊥) (n2 : x ≡ 2 → ⊥) (n3 : x ≡ 3 → ⊥) where
+  module _ (n4 : x ≡ 4 → ⊥) (n5 : x ≡ 5 → ⊥) where
+    pub above-rest : true ≡ isAbove (relationOf x)
+    above-rest = rw (relation-rest x n0 n1 n2 n3 n4 n5)
 
-below-code : (x : ℕ) → (leb 2 x && ltb x 4) ≡ isBelow (relationOf x)
-below-code zero = refl
-below-code (suc zero) = refl
-below-code (suc (suc zero)) = refl
-below-code (suc (suc (suc zero))) = refl
-below-code (suc (suc (suc (suc zero)))) = refl
-below-code (suc (suc (suc (suc (suc zero))))) = refl
-below-code (suc (suc (suc (suc (suc (suc x)))))) =
-    let n : ℕ = suc (suc (suc (suc (suc (suc x))))) in rw (le-leb 2 n (omega arith), le-ltb n 4 (omega arith))
+    pub below-rest : false ≡ isBelow (relationOf x)
+    below-rest = rw (relation-rest x n0 n1 n2 n3 n4 n5)
 
--- and which uses are positive, by the aggregate's code
-module _ (x : ℕ) where
-  pub grows-min : (g : ℕ) → g ≡ 2 → (leb 2 x && ltb x 4) ≡ grows (aggregateOf g) (relationOf x)
-  grows-min g e = rw e (below-code x)
+  pub grows-rest : (r : ℕ) (v : Bool) → v ≡ isAbove (relationOf r) → v ≡ grows (aggregateOf x) (relationOf r)
+  grows-rest r v e = rw (aggregate-rest x n0 n1 n2 n3) e
 
-  pub grows-rest : (g : ℕ) → (g ≡ 1 → ⊥) → (g ≡ 2 → ⊥) → leb 4 x ≡ grows (aggregateOf g) (relationOf x)
-  grows-rest zero m n = above-code x
-  grows-rest (suc zero) m n = absurd (m refl)
-  grows-rest (suc (suc zero)) m n = absurd (n refl)
-  grows-rest (suc (suc (suc zero))) m n = above-code x
-  grows-rest (suc (suc (suc (suc g)))) m n = above-code x
+  pub shrinks-rest : (r : ℕ) → false ≡ shrinks (aggregateOf x) (relationOf r)
+  shrinks-rest r = rw (aggregate-rest x n0 n1 n2 n3)
 
-  pub shrinks-count : (g : ℕ) → g ≡ 0 → (leb 2 x && ltb x 4) ≡ shrinks (aggregateOf g) (relationOf x)
-  shrinks-count g e = rw e (below-code x)
-
-  pub shrinks-rest : (g : ℕ) → (g ≡ 0 → ⊥) → false ≡ shrinks (aggregateOf g) (relationOf x)
-  shrinks-rest zero n = absurd (n refl)
-  shrinks-rest (suc zero) n = refl
-  shrinks-rest (suc (suc zero)) n = refl
-  shrinks-rest (suc (suc (suc zero))) n = refl
-  shrinks-rest (suc (suc (suc (suc g)))) n = refl
-
-pub ruleset signs = (grows-min, grows-rest, shrinks-count, shrinks-rest)
+pub ruleset signs = (above-rest, below-rest, grows-rest, shrinks-rest)

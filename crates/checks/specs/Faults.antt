@@ -5,22 +5,10 @@ use mathlib.Core.Option.{Option}
 use Prim.Native.Nat.{ℕ, suc}
 use lib.ListN.{getD}
 use Rattle.laws.specs.Lists.{seekFrom}
-use Rattle.meaning.specs.Format.{countOf}
-use Rattle.meaning.specs.Refusal.{
-  Refusal,
-  atRecord,
-  firstOf,
-  strayAtom,
-  strayComparison,
-  strayElement,
-  strayHypothesis,
-  strayRule,
-  unlistedAtom,
-  unlistedComparison,
-  unlistedElement,
-  unlistedHypothesis,
-  unlistedPredicate,
-}
+use Rattle.meaning.specs.Format.{atomCount, comparisonCount, countOf, elementCount, hypothesisCount, predicateCount}
+use Rattle.meaning.specs.Refusal.{Refusal, atRecord, firstOf, strayAtom, strayComparison, strayElement, strayHypothesis}
+use Rattle.meaning.specs.Refusal.{strayRule, unlistedAtom, unlistedComparison, unlistedElement, unlistedHypothesis}
+use Rattle.meaning.specs.Refusal.{unlistedPredicate}
 use Rattle.book.specs.Records.{atomIn, comparisonIn, elementIn, hypothesisIn, predicateIn, ruleIn}
 use Rattle.checks.specs.declared.records.Fault.{Fault}
 use Rattle.checks.specs.declared.records.Fault.the-variants.{Stray, Unlisted}
@@ -44,11 +32,11 @@ unlistedTests b =
 abbrev pub strayTests : List ℕ → List (ℕ → Bool)
 strayTests b =
     never
-    ∷ (λ i. strayAtom (countOf b 0) i (atomIn b i))
-    ∷ (λ i. strayRule (countOf b 1) (countOf b 3) i (ruleIn b i))
-    ∷ (λ i. strayHypothesis (countOf b 1) (countOf b 4) i (hypothesisIn b i))
-    ∷ (λ i. strayComparison (countOf b 5) i (comparisonIn b i))
-    ∷ (λ i. strayElement (countOf b 1) i (elementIn b i))
+    ∷ (λ i. strayAtom (predicateCount b) i (atomIn b i))
+    ∷ (λ i. strayRule (atomCount b) (hypothesisCount b) i (ruleIn b i))
+    ∷ (λ i. strayHypothesis (atomCount b) (comparisonCount b) i (hypothesisIn b i))
+    ∷ (λ i. strayComparison (elementCount b) i (comparisonIn b i))
+    ∷ (λ i. strayElement (atomCount b) i (elementIn b i))
     ∷ []
 
 -- the one or the other

@@ -9,7 +9,7 @@ use Prim.Native.Nat.{ℕ, _+_, _<_, max}
 use lib.Dec.{eqb, ltb}
 use lib.ListN.{length, getD}
 use Rattle.laws.specs.Lists.{any, seekFrom}
-use Rattle.meaning.specs.Format.{ElementRecord, countOf}
+use Rattle.meaning.specs.Format.{ElementRecord, ruleCount}
 use Rattle.meaning.specs.Reading.{Hypothesis, isCertain}
 use Rattle.meaning.specs.Refusal.{Refusal, Use, atRecord, uses, usesOf}
 use Rattle.book.specs.Records.{comparisonRead, hypothesisRead, kindRead, levelRead, ruleIn, ruleRead}
@@ -71,4 +71,4 @@ ruleFault b aspect r =
 
 -- the lowest such rule
 unfoldable pub ruleRefusal : List ℕ → Aspect → Option Refusal
-ruleRefusal b aspect = atRecord (numberOf aspect) 3 (seekFrom (ruleFault b aspect) 0 (countOf b 2))
+ruleRefusal b aspect = atRecord (numberOf aspect) 3 (seekFrom (ruleFault b aspect) 0 (ruleCount b))

@@ -2,14 +2,8 @@
 ghost use mathlib.Core.Path.{_≡_};
 ghost use mathlib.Core.List.{_++_};
 ghost use Rattle.meaning.specs.Format.{tables};
-ghost use Rattle.meaning.specs.Refusal.{
-  codeRefusals,
-  frameRefusals,
-  levelRefusals,
-  recordRefusals,
-  refusal,
-  roomRefusals,
-};
+ghost use Rattle.meaning.specs.Refusal.{codeRefusals, frameRefusals, levelRefusals, recordRefusals, refusal};
+ghost use Rattle.meaning.specs.Refusal.{roomRefusals};
 ghost use Rattle.book.specs.Framed.{Framed, Ready};
 ghost use Rattle.checks.specs.Verdicts.{verdictAmong, verdictOf};
 use crate::frame::check_frame;
@@ -23,6 +17,7 @@ use crate::uses::check_heights;
 use crate::uses::check_signs;
 use crate::verdict::Verdict;
 use book::readers::count_of;
+use book::tables::ATOMS;
 
 // 5 to 7: the records.
 fn check_records(book: &[u8]) -> Verdict
@@ -81,7 +76,7 @@ fn check_room(book: &[u8], room: usize) -> Verdict
     requires { ⌜ Framed (now book) ⌝ }
     ensures { λ r. ⌜ r ≡ verdictAmong (roomRefusals (tables (now (book .entry))) room) ⌝ }
 {
-    if room < count_of(book, 1) {
+    if room < count_of(book, ATOMS) {
         return Verdict::Refused {
             number: 12,
             table: 0,

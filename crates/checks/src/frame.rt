@@ -10,9 +10,22 @@ use book::casts::narrow;
 use book::readers::count_of;
 use book::readers::offset_of;
 use book::readers::size_of;
+use book::tables::MOST_ATOMS;
+use book::tables::MOST_COMPARISONS;
+use book::tables::MOST_ELEMENTS;
+use book::tables::MOST_HYPOTHESES;
+use book::tables::MOST_PREDICATES;
+use book::tables::MOST_RULES;
 
 // Most records of the tables 1 to 6.
-const LIMITS: [usize; 6] = [128, 2048, 2048, 4096, 512, 4096];
+const LIMITS: [usize; 6] = [
+    MOST_PREDICATES,
+    MOST_ATOMS,
+    MOST_RULES,
+    MOST_HYPOTHESES,
+    MOST_COMPARISONS,
+    MOST_ELEMENTS,
+];
 
 fn limit_of(k: usize) -> usize
     requires { ⌜ k < 6 ⌝ }

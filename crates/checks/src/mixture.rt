@@ -1,7 +1,7 @@
 // Check 8: a predicate shares its level with a lower-numbered one, one certain and the other uncertain.
 ghost use mathlib.Core.Path.{_≡_};
 ghost use Prim.Native.Nat.{_<_};
-ghost use Rattle.meaning.specs.Format.{countOf, tables};
+ghost use Rattle.meaning.specs.Format.{predicateCount, tables};
 ghost use Rattle.meaning.specs.Refusal.{mixed, mixedBelow, refusal8};
 ghost use Rattle.meaning.specs.Reading.{isCertain, kindOf};
 ghost use Rattle.book.specs.Framed.{Framed};
@@ -12,10 +12,11 @@ use book::casts::short;
 use book::fields::predicate_kind;
 use book::fields::predicate_level;
 use book::readers::count_of;
+use book::tables::PREDICATES;
 
 // Code 0 is certain, every other uncertain.
 fn certain(book: &[u8], i: usize) -> bool
-    requires { ⌜ Framed (now book) × (i < countOf (now book) 0) ⌝ }
+    requires { let b = now book in ⌜ Framed b × (i < predicateCount b) ⌝ }
     ensures { λ r. ⌜ r ≡ isCertain (kindOf (predicateIn (now (book .entry)) i .kind)) ⌝ }
 {
     predicate_kind(book, i) == 0
@@ -23,16 +24,16 @@ fn certain(book: &[u8], i: usize) -> bool
 
 // One level for a certain predicate and an uncertain one.
 fn mixed(book: &[u8], i: usize, j: usize) -> bool
-    requires { ⌜ Framed (now book) × (i < countOf (now book) 0) × (j < countOf (now book) 0) ⌝ }
-    ensures { λ r. ⌜ r ≡ mixed (predicateIn (now (book .entry)) i) (predicateIn (now (book .entry)) j) ⌝ }
+    requires { let b = now book in ⌜ Framed b × (i < predicateCount b) × (j < predicateCount b) ⌝ }
+    ensures { λ r. let b = now (book .entry) in ⌜ r ≡ mixed (predicateIn b i) (predicateIn b j) ⌝ }
 {
     (predicate_level(book, i) == predicate_level(book, j)) & (certain(book, i) != certain(book, j))
 }
 
 // The predicates below the i-th.
 fn mixed_below(book: &[u8], i: usize) -> bool
-    requires { ⌜ Framed (now book) × (i < countOf (now book) 0) ⌝ }
-    ensures { λ r. ⌜ r ≡ mixedBelow (tables (now (book .entry)) .predicates) i (predicateIn (now (book .entry)) i) ⌝ }
+    requires { let b = now book in ⌜ Framed b × (i < predicateCount b) ⌝ }
+    ensures { λ r. let b = now (book .entry) in ⌜ r ≡ mixedBelow (tables b .predicates) i (predicateIn b i) ⌝ }
 {
     let mut j = 0;
     while j < i {
@@ -49,7 +50,7 @@ pub(crate) fn check_mixture(book: &[u8]) -> Verdict
     requires { ⌜ Framed (now book) ⌝ }
     ensures { λ r. ⌜ r ≡ verdictOf (refusal8 (tables (now (book .entry)) .predicates)) ⌝ }
 {
-    let n = count_of(book, 0);
+    let n = count_of(book, PREDICATES);
     let mut i = 0;
     while i < n {
         if mixed_below(book, i) {

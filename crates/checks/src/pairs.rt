@@ -13,14 +13,16 @@ use book::fields::comparison_first;
 use book::fields::comparison_many;
 use book::fields::element_atom;
 use book::readers::count_of;
+use book::tables::COMPARISONS;
+use book::tables::MOST_ELEMENTS;
 
 // 6: comparisons, elements and later elements, left at the first pair. The comparison reached is then the place.
 pub(crate) fn check_pairs(book: &[u8]) -> Verdict
     requires { ⌜ Ready (now book) ⌝ }
     ensures { λ r. ⌜ r ≡ verdictOf (refusal6 (tables (now (book .entry)))) ⌝ }
 {
-    let n = count_of(book, 4);
-    let mut seen = [0u16; 4096];
+    let n = count_of(book, COMPARISONS);
+    let mut seen = [0u16; MOST_ELEMENTS];
     let mut c = 0;
     'comparisons: while c < n {
         let first = comparison_first(book, c);

@@ -1,7 +1,7 @@
 // Checks 9 to 11: how high a use reaches, and the highest use of a comparison, found once for all rules that name it.
 ghost use mathlib.Core.Path.{_≡_};
 ghost use Prim.Native.Nat.{_<_, _≤_};
-ghost use Rattle.meaning.specs.Format.{countOf};
+ghost use Rattle.meaning.specs.Format.{atomCount, comparisonCount, elementCount};
 ghost use Rattle.book.specs.Framed.{Ready};
 ghost use Rattle.book.specs.Records.{elementIn};
 ghost use Rattle.checks.specs.Uses.{Reaches, comparisonReach, looksAt, reachOf, usedAs};
@@ -18,6 +18,8 @@ use book::fields::comparison_relation;
 use book::fields::element_atom;
 use book::fields::element_sign;
 use book::readers::count_of;
+use book::tables::COMPARISONS;
+use book::tables::MOST_COMPARISONS;
 
 // What a check asks of the atoms that a rule uses: 9 their levels, 10 the signs, 11 whether they are certain.
 pub(crate) enum Aspect {
@@ -28,7 +30,7 @@ pub(crate) enum Aspect {
 
 // Does the check look at this use?
 fn looks_at(book: &[u8], aspect: Aspect, atom: usize, positive: bool) -> bool
-    requires { ⌜ Ready (now book) × (atom < countOf (now book) 1) ⌝ }
+    requires { let b = now book in ⌜ Ready b × (atom < atomCount b) ⌝ }
     ensures { λ r. ⌜ r ≡ looksAt (now (book .entry)) aspect (record { atom = atom; positive = positive }) ⌝ }
 {
     match aspect {
@@ -40,7 +42,7 @@ fn looks_at(book: &[u8], aspect: Aspect, atom: usize, positive: bool) -> bool
 
 // The level above the atom's if it does, else 0.
 pub(crate) fn use_reach(book: &[u8], aspect: Aspect, atom: usize, positive: bool) -> usize
-    requires { ⌜ Ready (now book) × (atom < countOf (now book) 1) ⌝ }
+    requires { let b = now book in ⌜ Ready b × (atom < atomCount b) ⌝ }
     ensures { λ r. ⌜ (r ≡ reachOf (now (book .entry)) aspect (record { atom = atom; positive = positive }))
         × (r ≤ 256) ⌝ }
 {
@@ -52,9 +54,9 @@ pub(crate) fn use_reach(book: &[u8], aspect: Aspect, atom: usize, positive: bool
 
 // The same of element e, by whether sign 0 and sign 1 are positive.
 fn element_reach(book: &[u8], aspect: Aspect, plain: bool, negated: bool, e: usize) -> usize
-    requires { ⌜ Ready (now book) × (e < countOf (now book) 5) ⌝ }
-    ensures { λ r. ⌜ (let b = now (book .entry) in
-        (r ≡ reachOf b aspect (usedAs plain negated (elementIn b e))) × (r ≤ 256)) ⌝ }
+    requires { let b = now book in ⌜ Ready b × (e < elementCount b) ⌝ }
+    ensures { λ r. let b = now (book .entry) in
+        ⌜ (r ≡ reachOf b aspect (usedAs plain negated (elementIn b e))) × (r ≤ 256) ⌝ }
 {
     let atom = element_atom(book, e);
     if element_sign(book, e) == 0 {
@@ -65,7 +67,7 @@ fn element_reach(book: &[u8], aspect: Aspect, plain: bool, negated: bool, e: usi
 
 // The highest of comparison c.
 fn comparison_reach(book: &[u8], aspect: Aspect, c: usize) -> usize
-    requires { ⌜ Ready (now book) × (c < countOf (now book) 4) ⌝ }
+    requires { let b = now book in ⌜ Ready b × (c < comparisonCount b) ⌝ }
     ensures { λ r. ⌜ (r ≡ comparisonReach (now (book .entry)) aspect c) × (r ≤ 256) ⌝ }
 {
     let aggregate = comparison_aggregate(book, c);
@@ -84,12 +86,12 @@ fn comparison_reach(book: &[u8], aspect: Aspect, c: usize) -> usize
 }
 
 // Those of all comparisons.
-pub(crate) fn reaches(book: &[u8], aspect: Aspect) -> [u16; 512]
+pub(crate) fn reaches(book: &[u8], aspect: Aspect) -> [u16; MOST_COMPARISONS]
     requires { ⌜ Ready (now book) ⌝ }
-    ensures { λ r. ⌜ Reaches (now (book .entry)) aspect (countOf (now (book .entry)) 4) r ⌝ }
+    ensures { λ r. let b = now (book .entry) in ⌜ Reaches b aspect (comparisonCount b) r ⌝ }
 {
-    let n = count_of(book, 4);
-    let mut found = [0u16; 512];
+    let n = count_of(book, COMPARISONS);
+    let mut found = [0u16; MOST_COMPARISONS];
     let mut c = 0;
     while c < n {
         found[c] = short(comparison_reach(book, aspect, c));

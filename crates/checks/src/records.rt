@@ -3,7 +3,7 @@ ghost use mathlib.Core.Path.{_≡_};
 ghost use mathlib.Core.Bool.{cond};
 ghost use lib.Dec.{ltb};
 ghost use Prim.Native.Nat.{_<_};
-ghost use Rattle.meaning.specs.Format.{countOf, tables};
+ghost use Rattle.meaning.specs.Format.{atomCount, comparisonCount, countOf, tables};
 ghost use Rattle.meaning.specs.Refusal.{codeRefusals, refusal5};
 ghost use Rattle.book.specs.Framed.{Framed};
 ghost use Rattle.checks.specs.Faults.{bodiesRefusal, bodyRefusal, faultIn, numberOf};
@@ -27,6 +27,11 @@ use book::fields::rule_first;
 use book::fields::rule_head;
 use book::fields::rule_many;
 use book::readers::count_of;
+use book::tables::ATOMS;
+use book::tables::COMPARISONS;
+use book::tables::ELEMENTS;
+use book::tables::HYPOTHESES;
+use book::tables::PREDICATES;
 
 // What can be wrong with a record by itself: a code that is not listed, or an index that is not in its table.
 pub(crate) enum Fault {
@@ -36,7 +41,7 @@ pub(crate) enum Fault {
 
 // 4, at record i of the k-th body.
 fn unlisted(book: &[u8], k: usize, i: usize) -> bool
-    requires { ⌜ Framed (now book) × (k < 6) × (i < countOf (now book) k) ⌝ }
+    requires { let b = now book in ⌜ Framed b × (k < 6) × (i < countOf b k) ⌝ }
     ensures { λ r. ⌜ r ≡ faultIn (now (book .entry)) Fault.Unlisted k i ⌝ }
 {
     match k {
@@ -52,35 +57,35 @@ fn unlisted(book: &[u8], k: usize, i: usize) -> bool
 // How many records a hypothesis may point at: sorts 0 and 1 at atoms, sort 2 at comparisons.
 fn among(book: &[u8], sort: usize) -> usize
     requires { ⌜ Framed (now book) ⌝ }
-    ensures { λ r. ⌜ r ≡ cond (ltb sort 2) (countOf (now (book .entry)) 1) (countOf (now (book .entry)) 4) ⌝ }
+    ensures { λ r. let b = now (book .entry) in ⌜ r ≡ cond (ltb sort 2) (atomCount b) (comparisonCount b) ⌝ }
 {
     if sort < 2 {
-        count_of(book, 1)
+        count_of(book, ATOMS)
     } else {
-        count_of(book, 4)
+        count_of(book, COMPARISONS)
     }
 }
 
 // 5, likewise. No sum of two numbers of 16 bits wraps.
 fn stray(book: &[u8], k: usize, i: usize) -> bool
-    requires { ⌜ Framed (now book) × (k < 6) × (i < countOf (now book) k) ⌝ }
+    requires { let b = now book in ⌜ Framed b × (k < 6) × (i < countOf b k) ⌝ }
     ensures { λ r. ⌜ r ≡ faultIn (now (book .entry)) Fault.Stray k i ⌝ }
 {
     match k {
-        1 => count_of(book, 0) <= atom_predicate(book, i),
+        1 => count_of(book, PREDICATES) <= atom_predicate(book, i),
         2 => {
-            (count_of(book, 1) <= rule_head(book, i))
-                | (count_of(book, 3) < rule_first(book, i) + rule_many(book, i))
+            (count_of(book, ATOMS) <= rule_head(book, i))
+                | (count_of(book, HYPOTHESES) < rule_first(book, i) + rule_many(book, i))
         }
         3 => among(book, hypothesis_sort(book, i)) <= hypothesis_index(book, i),
-        4 => count_of(book, 5) < comparison_first(book, i) + comparison_many(book, i),
-        5 => count_of(book, 1) <= element_atom(book, i),
+        4 => count_of(book, ELEMENTS) < comparison_first(book, i) + comparison_many(book, i),
+        5 => count_of(book, ATOMS) <= element_atom(book, i),
         _ => false,
     }
 }
 
 fn at_fault(book: &[u8], fault: Fault, k: usize, i: usize) -> bool
-    requires { ⌜ Framed (now book) × (k < 6) × (i < countOf (now book) k) ⌝ }
+    requires { let b = now book in ⌜ Framed b × (k < 6) × (i < countOf b k) ⌝ }
     ensures { λ r. ⌜ r ≡ faultIn (now (book .entry)) fault k i ⌝ }
 {
     match fault {

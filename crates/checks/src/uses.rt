@@ -2,19 +2,11 @@
 ghost use mathlib.Core.Path.{_≡_};
 ghost use mathlib.Core.Option.{none};
 ghost use Prim.Native.Nat.{_<_};
-ghost use Rattle.meaning.specs.Format.{countOf, tables};
+ghost use Rattle.meaning.specs.Format.{atomCount, comparisonCount, hypothesisCount, ruleCount, tables};
 ghost use Rattle.meaning.specs.Reading.{levelsOf, reading};
 ghost use Rattle.meaning.specs.Refusal.{refusal10, refusal11, refusal9};
 ghost use Rattle.book.specs.Framed.{Ready};
-ghost use Rattle.checks.specs.Uses.{
-  Reaches,
-  asksOf,
-  hypothesisReach,
-  limitOf,
-  numberOf,
-  ruleFault,
-  ruleRefusal,
-};
+ghost use Rattle.checks.specs.Uses.{Reaches, asksOf, hypothesisReach, limitOf, numberOf, ruleFault, ruleRefusal};
 ghost use Rattle.checks.specs.Verdicts.{verdictOf};
 use crate::reaches::Aspect;
 use crate::reaches::reaches;
@@ -30,6 +22,7 @@ use book::fields::rule_first;
 use book::fields::rule_head;
 use book::fields::rule_many;
 use book::readers::count_of;
+use book::tables::RULES;
 
 // The number of the check.
 fn number_of(aspect: Aspect) -> u8
@@ -44,7 +37,7 @@ fn number_of(aspect: Aspect) -> u8
 
 // Does the check ask anything of rules with this head?
 fn asks_of(book: &[u8], aspect: Aspect, head: usize) -> bool
-    requires { ⌜ Ready (now book) × (head < countOf (now book) 1) ⌝ }
+    requires { let b = now book in ⌜ Ready b × (head < atomCount b) ⌝ }
     ensures { λ r. ⌜ r ≡ asksOf (now (book .entry)) aspect head ⌝ }
 {
     match aspect {
@@ -56,7 +49,7 @@ fn asks_of(book: &[u8], aspect: Aspect, head: usize) -> bool
 
 // How high their uses may reach.
 fn limit_of(book: &[u8], aspect: Aspect, head: usize) -> usize
-    requires { ⌜ Ready (now book) × (head < countOf (now book) 1) ⌝ }
+    requires { let b = now book in ⌜ Ready b × (head < atomCount b) ⌝ }
     ensures { λ r. ⌜ r ≡ limitOf (now (book .entry)) aspect head ⌝ }
 {
     match aspect {
@@ -68,8 +61,8 @@ fn limit_of(book: &[u8], aspect: Aspect, head: usize) -> usize
 
 // How high hypothesis h reaches.
 fn hypothesis_reach(book: &[u8], found: &[u16], aspect: Aspect, h: usize) -> usize
-    requires { ⌜ (let b = now book in
-        Ready b × Reaches b aspect (countOf b 4) (now found) × (h < countOf b 3)) ⌝ }
+    requires { let b = now book in
+        ⌜ Ready b × Reaches b aspect (comparisonCount b) (now found) × (h < hypothesisCount b) ⌝ }
     ensures { λ r. ⌜ r ≡ hypothesisReach (now (book .entry)) aspect h ⌝ }
 {
     let sort = hypothesis_sort(book, h);
@@ -83,8 +76,7 @@ fn hypothesis_reach(book: &[u8], found: &[u16], aspect: Aspect, h: usize) -> usi
 
 // Does a hypothesis of rule r reach above the limit?
 fn rule_fault(book: &[u8], found: &[u16], aspect: Aspect, r: usize) -> bool
-    requires { ⌜ (let b = now book in
-        Ready b × Reaches b aspect (countOf b 4) (now found) × (r < countOf b 2)) ⌝ }
+    requires { let b = now book in ⌜ Ready b × Reaches b aspect (comparisonCount b) (now found) × (r < ruleCount b) ⌝ }
     ensures { λ v. ⌜ v ≡ ruleFault (now (book .entry)) aspect r ⌝ }
 {
     let head = rule_head(book, r);
@@ -110,7 +102,7 @@ fn check_rules(book: &[u8], aspect: Aspect) -> Verdict
     ensures { λ r. ⌜ r ≡ verdictOf (ruleRefusal (now (book .entry)) aspect) ⌝ }
 {
     let found = reaches(book, aspect);
-    let n = count_of(book, 2);
+    let n = count_of(book, RULES);
     let mut r = 0;
     while r < n {
         if rule_fault(book, &found, aspect, r) {
@@ -136,8 +128,7 @@ pub(crate) fn check_heights(book: &[u8]) -> Verdict
 // 10: the head is certain and uses a predicate of its own level non-positively. It is made after 9, so that no atom
 // that a rule uses is above its head's level.
 pub(crate) fn check_signs(book: &[u8]) -> Verdict
-    requires { ⌜ Ready (now book)
-        × (let t = tables (now book) in refusal9 (reading t .rules) (levelsOf t) ≡ none) ⌝ }
+    requires { let b = now book in ⌜ Ready b × (let t = tables b in refusal9 (reading t .rules) (levelsOf t) ≡ none) ⌝ }
     ensures { λ r. ⌜ r ≡ verdictOf (let t = tables (now (book .entry)) in refusal10 (reading t) (levelsOf t)) ⌝ }
 {
     check_rules(book, Aspect::Sign)

@@ -4,8 +4,8 @@ use mathlib.Core.List.{List}
 use Prim.Native.Nat.{ℕ}
 use lib.Dec.{ltb}
 use lib.ListN.{length}
-use Rattle.meaning.specs.Format.{contents, countOf}
+use Rattle.meaning.specs.Format.{atomCount, contents}
 
 -- the count of the second table, and none for a book that is shorter than its table of contents
 unfoldable pub atomsSaid : List ℕ → ℕ
-atomsSaid b = cond (ltb (length b) contents) 0 (countOf b 1)
+atomsSaid b = cond (ltb (length b) contents) 0 (atomCount b)

@@ -2,6 +2,7 @@
 ghost use mathlib.Core.Path.{_≡_};
 ghost use Rattle.doughpillar.specs.Contents.{atomsSaid};
 use book::readers::count_of;
+use book::tables::ATOMS;
 
 // The bytes of a table of contents.
 const CONTENTS: usize = 48;
@@ -14,5 +15,5 @@ pub extern "C" fn doughpillar_atoms(book: &[u8]) -> u32
     if book.len() < CONTENTS {
         return 0;
     }
-    count_of(book, 1) as u32
+    count_of(book, ATOMS) as u32
 }

@@ -5,7 +5,7 @@ use Prim.Native.Nat.{ℕ, _≤_}
 use native.Mathlib.Omega.{arith}
 use lib.ListN.{length, take}
 use lib.Seq.{length-take-le, take-all}
-use Rattle.meaning.specs.Format.{contents, countOf, tables}
+use Rattle.meaning.specs.Format.{atomCount, contents, tables}
 use Rattle.meaning.specs.Refusal.{refusal, refusals}
 use Rattle.meaning.specs.Demands.{Accepted}
 use Rattle.meaning.specs.Outcome.{Outcome, modelOf, outcome, written}
@@ -54,8 +54,8 @@ module _ (b room : List ℕ) (v : Verdict) (e : v ≡ verdictOf (refusal b (leng
     passed-number = sym (ap (λ (o : Outcome). o .number) (accepted b room here))
 
     -- all answers have room
-    pub passed-writes : (L after : List ℕ) (k : ℕ) → k ≡ countOf b 1 → length L ≡ 2048 →
-        answersIn (take (countOf b 1) L) ≡ modelOf b →
+    pub passed-writes : (L after : List ℕ) (k : ℕ) → k ≡ atomCount b → length L ≡ 2048 →
+        answersIn (take (atomCount b) L) ≡ modelOf b →
         after ≡ written (answersIn (take (length room) (take k L))) room → after ≡ outcome b room .room
     passed-writes L after k q l m w =
         let R = accepted-ready b (length room) here in

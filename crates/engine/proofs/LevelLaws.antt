@@ -16,7 +16,7 @@ use Rattle.laws.proofs.Numbers.{any-found-read, any-next, any-none, any-number}
 use Rattle.laws.proofs.Searches.{NoneTo}
 use Rattle.laws.proofs.Tests.{fails-of, right, test-clash}
 use Rattle.theory.specs.Truth.{Truth, isUndefined}
-use Rattle.meaning.specs.Format.{countOf, noAtom, tables}
+use Rattle.meaning.specs.Format.{atomCount, noAtom, predicateCount, tables}
 use Rattle.meaning.specs.Reading.{codeOf, givenIn, givenOf, isCertain, truthOf}
 use Rattle.meaning.specs.Model.{close, closing}
 use Rattle.meaning.proofs.Bytes.{atoms-length}
@@ -32,8 +32,8 @@ use Rattle.steps.proofs.WorkLaws.{Written, few, written-all, written-more, writ
 
 -- the predicates of a level, looked at one after the other
 module _ (b : List ℕ) (n p x : ℕ) (e : x ≡ predicateIn b p .level) where
-  pub level-found : (m : ℕ) → x ≡ n → p < m → m ≡ countOf b 0 → true ≡ anyTo (levelIs b n) (countOf b 0)
-  level-found m q l s = any-found-read (levelIs b n) p (countOf b 0) m true (sym (eq-eqb _ n (sym e ∙ q))) refl l s
+  pub level-found : (m : ℕ) → x ≡ n → p < m → m ≡ predicateCount b → true ≡ anyTo (levelIs b n) (predicateCount b)
+  level-found m q l s = any-found-read (levelIs b n) p (predicateCount b) m true (sym (eq-eqb _ n (sym e ∙ q))) refl l s
 
   pub level-next : (x ≡ n → ⊥) → anyTo (levelIs b n) p ≡ false → anyTo (levelIs b n) (p + 1) ≡ false
   level-next f c = any-next (levelIs b n) p false c (sym (ne-eqb _ n (λ z. f (e ∙ z)))) refl
@@ -41,15 +41,15 @@ module _ (b : List ℕ) (n p x : ℕ) (e : x ≡ predicateIn b p .level) where
 pub ruleset levels = (level-found, level-next)
 
 -- a level without one has nothing to decide
-pub level-bare : (b : List ℕ) (n : ℕ) (L : List ℕ) (v : Bool) → v ≡ anyTo (levelIs b n) (countOf b 0) → not v ≡ true →
-    Ready b → false ≡ anyTo (pendingIn b n L) (countOf b 1)
+pub level-bare : (b : List ℕ) (n : ℕ) (L : List ℕ) (v : Bool) → v ≡ anyTo (levelIs b n) (predicateCount b) →
+    not v ≡ true → Ready b → false ≡ anyTo (pendingIn b n L) (atomCount b)
 unfolding NoneTo pendingIn
 level-bare b n L v e f R =
-    sym (fails-of (anyTo (pendingIn b n L) (countOf b 1)) (λ t.
-    let (a, l, u) = any-number (pendingIn b n L) (countOf b 1) t in
+    sym (fails-of (anyTo (pendingIn b n L) (atomCount b)) (λ t.
+    let (a, l, u) = any-number (pendingIn b n L) (atomCount b) t in
     let p = atomIn b a .predicate in
     let own : levelRead b a ≡ predicateIn b p .level = sym (level-code b a p _ l refl refl) in
-    let none = any-none (levelIs b n) (countOf b 0) (sym e ∙ not-true v f) p (R .indexed .atom a l) in
+    let none = any-none (levelIs b n) (predicateCount b) (sym e ∙ not-true v f) p (R .indexed .atom a l) in
     test-clash (rw own at (right (isUndefined (held L a)) _ u)) none))
 
 -- the closing of a level, at one atom
@@ -90,13 +90,13 @@ module _ (b : List ℕ) (n : ℕ) (L : List ℕ) where
       written-more closedAt now a v W l
       (ap truthOf ev ∙ code-back _ ∙ ap (closing (rulesIn b) (levelsIn b) n a) (ap truthOf ex ∙ code-back (held L a))))
 
-  pub closed-all : (now : List ℕ) (a m : ℕ) → Ready b → length L ≡ countOf b 1 → m ≡ countOf b 1 → a ≤ m → m ≤ a →
-      Written closedAt now a → answersIn (take (countOf b 1) now) ≡ close (rulesIn b) (levelsIn b) n (answersIn L)
+  pub closed-all : (now : List ℕ) (a m : ℕ) → Ready b → length L ≡ atomCount b → m ≡ atomCount b → a ≤ m → m ≤ a →
+      Written closedAt now a → answersIn (take (atomCount b) now) ≡ close (rulesIn b) (levelsIn b) n (answersIn L)
   unfolding closedAt close held
   closed-all now a m F s e l o W =
-      let q : a ≡ countOf b 1 = omega (arith, e, l, o) in
-      let long : length (answersIn L) ≡ countOf b 1 = length-map L truthOf ∙ s in
-      written-all closedAt now (countOf b 1) (mapAt (closing (rulesIn b) (levelsIn b) n) 0 (answersIn L)) (few b F)
+      let q : a ≡ atomCount b = omega (arith, e, l, o) in
+      let long : length (answersIn L) ≡ atomCount b = length-map L truthOf ∙ s in
+      written-all closedAt now (atomCount b) (mapAt (closing (rulesIn b) (levelsIn b) n) 0 (answersIn L)) (few b F)
       (mapAt-length (closing (rulesIn b) (levelsIn b) n) 0 (answersIn L) ∙ long)
       (λ a k. sym (mapAt-at (closing (rulesIn b) (levelsIn b) n) Truth.undefined Truth.undefined (answersIn L) a
       (omega (arith, k, long)) ∙
@@ -116,17 +116,17 @@ module _ (b : List ℕ) where
   unfolding givenAt
   given-written now X a x v q W l ex ev = rw q (written-more givenAt now a v W l (ap truthOf (ev ∙ ex)))
 
-  pub given-all : (now : List ℕ) (a m : ℕ) → Ready b → m ≡ countOf b 1 → a ≤ m → m ≤ a → Written givenAt now a →
-      answersIn (take (countOf b 1) now) ≡ givenOf (tables b)
+  pub given-all : (now : List ℕ) (a m : ℕ) → Ready b → m ≡ atomCount b → a ≤ m → m ≤ a → Written givenAt now a →
+      answersIn (take (atomCount b) now) ≡ givenOf (tables b)
   unfolding givenAt givenOf
   given-all now a m F e l o W =
-      let q : a ≡ countOf b 1 = omega (arith, e, l, o) in
-      written-all givenAt now (countOf b 1) (map givenIn (tables b .atoms)) (few b F)
+      let q : a ≡ atomCount b = omega (arith, e, l, o) in
+      written-all givenAt now (atomCount b) (map givenIn (tables b .atoms)) (few b F)
       (length-map (tables b .atoms) givenIn ∙ atoms-length b)
       (λ a k. sym (map-at givenIn noAtom Truth.undefined (tables b .atoms) a (omega (arith, k, atoms-length b))))
       (rw q at W)
 
-pub atom-fits : (b : List ℕ) (a m : ℕ) → Ready b → m ≡ countOf b 1 → a < m → a < 2048
+pub atom-fits : (b : List ℕ) (a m : ℕ) → Ready b → m ≡ atomCount b → a < m → a < 2048
 atom-fits b a m F e l = omega (arith, few b F, e, l)
 
 pub ruleset writing = (written-none, close-written, closed-all, written-long, given-written, given-all, atom-fits)

@@ -12,7 +12,7 @@ use Rattle.laws.proofs.Counting.{number}
 use Rattle.laws.proofs.Tests.{by-test}
 use Rattle.laws.proofs.Repeats.{times-fixed, times-more}
 use Rattle.theory.specs.Truth.{Truth, isUndefined}
-use Rattle.meaning.specs.Format.{countOf}
+use Rattle.meaning.specs.Format.{atomCount}
 use Rattle.meaning.specs.Reading.{truthOf}
 use Rattle.meaning.specs.Model.{round}
 use Rattle.meaning.proofs.Rounds.{round-falls, rounds-rest}
@@ -26,39 +26,39 @@ module _ (b : List ℕ) (n : ℕ) where
   abbrev turn : List Truth → List Truth
   turn = round (rulesIn b) (levelsIn b) n
 
-  once-more : (A : List Truth) → length A ≡ countOf b 1 → times (countOf b 1) turn (turn A) ≡ times (countOf b 1) turn A
-  once-more A e = times-more turn (countOf b 1) A ∙ (rw e at (rounds-rest (rulesIn b) (levelsIn b) n A))
+  once-more : (A : List Truth) → length A ≡ atomCount b → times (atomCount b) turn (turn A) ≡ times (atomCount b) turn A
+  once-more A e = times-more turn (atomCount b) A ∙ (rw e at (rounds-rest (rulesIn b) (levelsIn b) n A))
 
   -- the answers of a turn, the turns so far, and whether one more is needed
   pub record Turning (before now : List ℕ) (more : Bool) : Type 0 where
     pub long : length now ≡ 2048
-    pub many : length (answersIn (take (countOf b 1) now)) ≡ countOf b 1
-    pub same : times (countOf b 1) turn (answersIn (take (countOf b 1) now)) ≡ times (countOf b 1) turn
+    pub many : length (answersIn (take (atomCount b) now)) ≡ atomCount b
+    pub same : times (atomCount b) turn (answersIn (take (atomCount b) now)) ≡ times (atomCount b) turn
         (answersIn before)
-    pub done : more ≡ false → turn (answersIn (take (countOf b 1) now)) ≡ answersIn (take (countOf b 1) now)
+    pub done : more ≡ false → turn (answersIn (take (atomCount b) now)) ≡ answersIn (take (atomCount b) now)
 
   -- what is left: undefined atoms, and the turn that finds that nothing changes
   unfoldable pub left : List ℕ → Bool → ℕ
-  left now more = number isUndefined (answersIn (take (countOf b 1) now)) + cond more 1 0
+  left now more = number isUndefined (answersIn (take (atomCount b) now)) + cond more 1 0
 
   module _ (F : Ready b) where
-    taken : (now : List ℕ) → length now ≡ 2048 → length (answersIn (take (countOf b 1) now)) ≡ countOf b 1
-    taken now e = length-map (take (countOf b 1) now) truthOf ∙ length-take-le (countOf b 1) now
+    taken : (now : List ℕ) → length now ≡ 2048 → length (answersIn (take (atomCount b) now)) ≡ atomCount b
+    taken now e = length-map (take (atomCount b) now) truthOf ∙ length-take-le (atomCount b) now
         (omega (arith, few b F, e))
 
-    pub turning-none : (before : List ℕ) → length before ≡ 2048 → Turning (take (countOf b 1) before) before true
+    pub turning-none : (before : List ℕ) → length before ≡ 2048 → Turning (take (atomCount b) before) before true
     turning-none before e = record { long = e; many = taken before e; same = refl; done = λ f. absurd (true≢false f) }
 
     module _ (before now after : List ℕ) (more c : Bool) (k : ℕ) (T : Turning before now more)
-        (W : Turn b n (take k now) after c) (q : k ≡ countOf b 1) where
-      U : Turn b n (take (countOf b 1) now) after c
+        (W : Turn b n (take k now) after c) (q : k ≡ atomCount b) where
+      U : Turn b n (take (atomCount b) now) after c
       U = rw q at W
 
       pub turning-more : Turning before after c
       turning-more = record {
         long = U .long;
         many = taken after (U .long);
-        same = ap (times (countOf b 1) turn) (U .is) ∙ once-more (answersIn (take (countOf b 1) now)) (T .many) ∙
+        same = ap (times (atomCount b) turn) (U .is) ∙ once-more (answersIn (take (atomCount b) now)) (T .many) ∙
             T .same;
         done = λ e. let q = U .is ∙ U .rests e in ap turn q ∙ U .rests e ∙ sym q;
       }
@@ -67,13 +67,13 @@ module _ (b : List ℕ) (n : ℕ) where
       unfolding left
       turning-falls t = by-test c
           (λ e. rw (t, e, U .is) (⊎-elim (λ q. absurd (U .moves e q)) (λ l. omega (arith, l))
-          (round-falls (rulesIn b) (levelsIn b) n (answersIn (take (countOf b 1) now)))))
+          (round-falls (rulesIn b) (levelsIn b) n (answersIn (take (atomCount b) now)))))
           (λ e. rw (t, e, U .is ∙ U .rests e) (omega arith))
 
     pub rested : (before now : List ℕ) (more : Bool) → Turning before now more → more ≡ false → Rested b n before now
     rested before now more T e = record {
       long = T .long;
-      is = sym (times-fixed turn (countOf b 1) (answersIn (take (countOf b 1) now)) (T .done e)) ∙ T .same;
+      is = sym (times-fixed turn (atomCount b) (answersIn (take (atomCount b) now)) (T .done e)) ∙ T .same;
     }
 
 pub turning-long : (b : List ℕ) (n : ℕ) (before now : List ℕ) (more : Bool) → Turning b n before now more →

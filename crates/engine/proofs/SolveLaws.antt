@@ -16,7 +16,7 @@ use Rattle.laws.proofs.Numbers.{any-none}
 use Rattle.laws.proofs.Repeats.{times-fixed}
 use Rattle.laws.proofs.Searches.{NoneTo}
 use Rattle.theory.specs.Truth.{Truth, isUndefined}
-use Rattle.meaning.specs.Format.{countOf, tables}
+use Rattle.meaning.specs.Format.{atomCount, tables}
 use Rattle.meaning.specs.Reading.{givenOf, levelCount, truthOf}
 use Rattle.meaning.specs.Model.{close, closing, level, levelsBelow, model, next, round, unfounded}
 use Rattle.meaning.specs.Outcome.{modelOf}
@@ -35,11 +35,11 @@ mapAt-same f A h =
     (λ a l. let k : a < length A =
     omega (arith, l, mapAt-length f 0 A) in mapAt-at f Truth.undefined Truth.undefined A a k ∙ h a k)
 
-module _ (b : List ℕ) (n : ℕ) (L : List ℕ) (s : length L ≡ countOf b 1) where
-  many : length (answersIn L) ≡ countOf b 1
+module _ (b : List ℕ) (n : ℕ) (L : List ℕ) (s : length L ≡ atomCount b) where
+  many : length (answersIn L) ≡ atomCount b
   many = length-map L truthOf ∙ s
 
-  module _ (quiet : NoneTo (pendingIn b n L) (countOf b 1)) where
+  module _ (quiet : NoneTo (pendingIn b n L) (atomCount b)) where
     -- no atom is to be decided
     off : (a : ℕ) → a < length (answersIn L) → (isUndefined (getD (answersIn L) a Truth.undefined) &&
         eqb (levelRead b a) n) ≡ false
@@ -64,38 +64,38 @@ module _ (b : List ℕ) (n : ℕ) (L : List ℕ) (s : length L ≡ countOf b 1) 
         (answersIn L) idle-round) ∙ idle-close
 
 -- the level's two ways, where the code has read the number of atoms
-module _ (b : List ℕ) (k n : ℕ) (before : List ℕ) (e : k ≡ countOf b 1) (F : Ready b) (l : length before ≡ 2048) where
-  pub level-idle : (v : Bool) → v ≡ anyTo (pendingIn b n (take k before)) (countOf b 1) → v ≡ false →
-      Levelled b n (take (countOf b 1) before) before
+module _ (b : List ℕ) (k n : ℕ) (before : List ℕ) (e : k ≡ atomCount b) (F : Ready b) (l : length before ≡ 2048) where
+  pub level-idle : (v : Bool) → v ≡ anyTo (pendingIn b n (take k before)) (atomCount b) → v ≡ false →
+      Levelled b n (take (atomCount b) before) before
   level-idle v h f = record {
     long = l;
-    is = sym (idle-level b n (take (countOf b 1) before) (prefix-length b (countOf b 1) F before refl l)
-        (any-none _ _ (subst (λ (i : ℕ). anyTo (pendingIn b n (take i before)) (countOf b 1) ≡ false) e (sym h ∙ f))));
+    is = sym (idle-level b n (take (atomCount b) before) (prefix-length b (atomCount b) F before refl l)
+        (any-none _ _ (subst (λ (i : ℕ). anyTo (pendingIn b n (take i before)) (atomCount b) ≡ false) e (sym h ∙ f))));
   }
 
-  pub level-worked : (rest after : List ℕ) → Rested b n (take (countOf b 1) before) rest → length after ≡ 2048 →
-      answersIn (take (countOf b 1) after) ≡ close (rulesIn b) (levelsIn b) n (answersIn (take k rest)) →
-      Levelled b n (take (countOf b 1) before) after
+  pub level-worked : (rest after : List ℕ) → Rested b n (take (atomCount b) before) rest → length after ≡ 2048 →
+      answersIn (take (atomCount b) after) ≡ close (rulesIn b) (levelsIn b) n (answersIn (take k rest)) →
+      Levelled b n (take (atomCount b) before) after
   unfolding level
   level-worked rest after T m q = record {
     long = m;
     is = q ∙ ap (λ (i : ℕ). close (rulesIn b) (levelsIn b) n (answersIn (take i rest))) e ∙
         ap (close (rulesIn b) (levelsIn b) n) (T .is ∙
-        ap (λ (i : ℕ). times i (round (rulesIn b) (levelsIn b) n) (answersIn (take (countOf b 1) before)))
-        (sym (many b n (take (countOf b 1) before) (prefix-length b (countOf b 1) F before refl l))));
+        ap (λ (i : ℕ). times i (round (rulesIn b) (levelsIn b) n) (answersIn (take (atomCount b) before)))
+        (sym (many b n (take (atomCount b) before) (prefix-length b (atomCount b) F before refl l))));
   }
 
 -- the levels below n are done
 pub record Done (b : List ℕ) (now : List ℕ) (n : ℕ) : Type 0 where
   pub long : length now ≡ 2048
-  pub is : answersIn (take (countOf b 1) now) ≡ levelsBelow (rulesIn b) (levelsIn b) n (givenOf (tables b))
+  pub is : answersIn (take (atomCount b) now) ≡ levelsBelow (rulesIn b) (levelsIn b) n (givenOf (tables b))
 
-pub done-none : (b : List ℕ) (now : List ℕ) → length now ≡ 2048 → answersIn (take (countOf b 1) now) ≡ givenOf
+pub done-none : (b : List ℕ) (now : List ℕ) → length now ≡ 2048 → answersIn (take (atomCount b) now) ≡ givenOf
     (tables b) → Done b now 0
 unfolding levelsBelow
 done-none b now l e = record { long = l; is = e }
 
-pub done-more : (b : List ℕ) (now after : List ℕ) (n : ℕ) → Done b now n → Levelled b n (take (countOf b 1) now) after →
+pub done-more : (b : List ℕ) (now after : List ℕ) (n : ℕ) → Done b now n → Levelled b n (take (atomCount b) now) after →
     Done b after (n + 1)
 unfolding levelsBelow
 done-more b now after n D T = record {
@@ -108,7 +108,7 @@ pub done-long : (b : List ℕ) (now : List ℕ) (n : ℕ) → Done b now n → l
 done-long b now n D = D .long
 
 pub done-all : (b : List ℕ) (now : List ℕ) (n : ℕ) → Done b now n → n ≤ 128 → 128 ≤ n →
-    answersIn (take (countOf b 1) now) ≡ modelOf b
+    answersIn (take (atomCount b) now) ≡ modelOf b
 unfolding modelOf model
 done-all b now n D l m =
     let q : n ≡ levelCount = omega (arith, l, m) in

@@ -6,7 +6,7 @@ use Prim.Native.Nat.{ℕ}
 use lib.Dec.{eqb}
 use lib.ListN.{length, take}
 use Rattle.laws.specs.Lists.{times}
-use Rattle.meaning.specs.Format.{countOf}
+use Rattle.meaning.specs.Format.{atomCount}
 use Rattle.meaning.specs.Model.{level, round}
 use Rattle.book.specs.Records.{predicateIn}
 use Rattle.steps.specs.Work.{answersIn, levelsIn, rulesIn}
@@ -18,9 +18,9 @@ levelIs b n p = eqb (predicateIn b p .level) n
 -- as many rounds as there are atoms
 pub record Rested (b : List ℕ) (n : ℕ) (L after : List ℕ) : Type 0 where
   pub long : length after ≡ 2048
-  pub is : answersIn (take (countOf b 1) after) ≡ times (countOf b 1) (round (rulesIn b) (levelsIn b) n) (answersIn L)
+  pub is : answersIn (take (atomCount b) after) ≡ times (atomCount b) (round (rulesIn b) (levelsIn b) n) (answersIn L)
 
 -- one level worked through
 pub record Levelled (b : List ℕ) (n : ℕ) (L after : List ℕ) : Type 0 where
   pub long : length after ≡ 2048
-  pub is : answersIn (take (countOf b 1) after) ≡ level (rulesIn b) (levelsIn b) n (answersIn L)
+  pub is : answersIn (take (atomCount b) after) ≡ level (rulesIn b) (levelsIn b) n (answersIn L)

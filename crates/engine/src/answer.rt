@@ -4,6 +4,7 @@ ghost use Rattle.meaning.specs.Outcome.{outcome};
 use crate::solve::solve;
 use crate::write::write_answers;
 use book::readers::count_of;
+use book::tables::ATOMS;
 use checks::check::check;
 use checks::verdict::Verdict;
 use checks::verdict::packed;
@@ -15,7 +16,7 @@ pub fn answer(book: &[u8], room: &mut [u8]) -> u32
     let verdict = check(book, room.len());
     match verdict {
         Verdict::Passed => {
-            let n = count_of(book, 1);
+            let n = count_of(book, ATOMS);
             let answers = solve(book);
             write_answers(&answers[..n], room);
             0

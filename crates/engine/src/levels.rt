@@ -4,7 +4,7 @@ ghost use mathlib.Core.Path.{_≡_};
 ghost use Prim.Native.Nat.{_<_};
 ghost use lib.ListN.{length, take};
 ghost use Rattle.laws.specs.Lists.{anyTo};
-ghost use Rattle.meaning.specs.Format.{countOf, tables};
+ghost use Rattle.meaning.specs.Format.{atomCount, predicateCount, tables};
 ghost use Rattle.meaning.specs.Reading.{codeOf, givenOf, truthOf};
 ghost use Rattle.meaning.specs.Model.{close, closing};
 ghost use Rattle.steps.specs.Work.{Ready, answersIn, levelsIn, rulesIn};
@@ -16,6 +16,9 @@ use book::casts::narrow;
 use book::fields::atom_given;
 use book::fields::predicate_level;
 use book::readers::count_of;
+use book::tables::ATOMS;
+use book::tables::MOST_ATOMS;
+use book::tables::PREDICATES;
 use judge::literal::answer;
 use judge::literal::set_answer;
 use steps::due::pending;
@@ -23,9 +26,9 @@ use steps::due::pending;
 // Has the level a predicate? One without costs no more than this look.
 fn inhabited(book: &[u8], level: usize) -> bool
     requires { ⌜ Ready (now book) ⌝ }
-    ensures { λ r. ⌜ r ≡ anyTo (levelIs (now (book .entry)) level) (countOf (now (book .entry)) 0) ⌝ }
+    ensures { λ r. let b = now (book .entry) in ⌜ r ≡ anyTo (levelIs b level) (predicateCount b) ⌝ }
 {
-    let n = count_of(book, 0);
+    let n = count_of(book, PREDICATES);
     let mut p = 0;
     while p < n {
         if predicate_level(book, p) == level {
@@ -38,14 +41,13 @@ fn inhabited(book: &[u8], level: usize) -> bool
 
 // Is some atom of the level undefined?
 pub fn busy(book: &[u8], answers: &[u8], level: usize) -> bool
-    requires { ⌜ Ready (now book) × (length (now answers) ≡ countOf (now book) 1) ⌝ }
-    ensures { λ r. ⌜ r ≡ anyTo (pendingIn (now (book .entry)) level (now (answers .entry)))
-        (countOf (now (book .entry)) 1) ⌝ }
+    requires { let b = now book in ⌜ Ready b × (length (now answers) ≡ atomCount b) ⌝ }
+    ensures { λ r. let b = now (book .entry) in ⌜ r ≡ anyTo (pendingIn b level (now (answers .entry))) (atomCount b) ⌝ }
 {
     if !inhabited(book, level) {
         return false;
     }
-    let n = count_of(book, 1);
+    let n = count_of(book, ATOMS);
     let mut a = 0;
     while a < n {
         if pending(book, answers, level, a) {
@@ -57,9 +59,8 @@ pub fn busy(book: &[u8], answers: &[u8], level: usize) -> bool
 }
 
 fn closed_answer(book: &[u8], level: usize, a: usize, x: u8) -> u8
-    requires { ⌜ Ready (now book) × (a < countOf (now book) 1) ⌝ }
-    ensures { λ r. ⌜ r ≡ codeOf (closing (rulesIn (now (book .entry))) (levelsIn (now (book .entry))) level a
-        (truthOf x)) ⌝ }
+    requires { let b = now book in ⌜ Ready b × (a < atomCount b) ⌝ }
+    ensures { λ r. let b = now (book .entry) in ⌜ r ≡ codeOf (closing (rulesIn b) (levelsIn b) level a (truthOf x)) ⌝ }
 {
     match x {
         1 => 1,
@@ -73,13 +74,15 @@ fn closed_answer(book: &[u8], level: usize, a: usize, x: u8) -> u8
 }
 
 // A certain level that is finished: all its other atoms become false.
-pub fn close_level(book: &[u8], answers: &[u8], level: usize) -> [u8; 2048]
-    requires { ⌜ Ready (now book) × (length (now answers) ≡ countOf (now book) 1) ⌝ }
-    ensures { λ r. ⌜ (length r ≡ 2048) × (answersIn (take (countOf (now (book .entry)) 1) r) ≡ close
-        (rulesIn (now (book .entry))) (levelsIn (now (book .entry))) level (answersIn (now (answers .entry)))) ⌝ }
+pub fn close_level(book: &[u8], answers: &[u8], level: usize) -> [u8; MOST_ATOMS]
+    requires { let b = now book in ⌜ Ready b × (length (now answers) ≡ atomCount b) ⌝ }
+    ensures { λ r. let b = now (book .entry) in
+        ⌜ (length r ≡ 2048)
+        × (answersIn (take (atomCount b) r) ≡ close (rulesIn b) (levelsIn b) level (answersIn (now
+        (answers .entry)))) ⌝ }
 {
-    let n = count_of(book, 1);
-    let mut now = [0u8; 2048];
+    let n = count_of(book, ATOMS);
+    let mut now = [0u8; MOST_ATOMS];
     let mut a = 0;
     while a < n {
         set_answer(
@@ -93,13 +96,13 @@ pub fn close_level(book: &[u8], answers: &[u8], level: usize) -> [u8; 2048]
 }
 
 // The answers that the book gives.
-pub fn given_answers(book: &[u8]) -> [u8; 2048]
+pub fn given_answers(book: &[u8]) -> [u8; MOST_ATOMS]
     requires { ⌜ Ready (now book) ⌝ }
-    ensures { λ r. ⌜ (length r ≡ 2048) × (answersIn (take (countOf (now (book .entry)) 1) r) ≡ givenOf
-        (tables (now (book .entry)))) ⌝ }
+    ensures { λ r. let b = now (book .entry) in
+        ⌜ (length r ≡ 2048) × (answersIn (take (atomCount b) r) ≡ givenOf (tables b)) ⌝ }
 {
-    let n = count_of(book, 1);
-    let mut now = [0u8; 2048];
+    let n = count_of(book, ATOMS);
+    let mut now = [0u8; MOST_ATOMS];
     let mut a = 0;
     while a < n {
         set_answer(&mut now, a, narrow(atom_given(book, a)));

@@ -5,7 +5,7 @@ use Prim.Native.Nat.{ℕ, _<_}
 use native.Mathlib.Omega.{arith}
 use lib.ListN.{length, getD, getD-replicate, length-replicate, length-set, replicate, set}
 use Rattle.laws.proofs.Stores.{stored}
-use Rattle.meaning.specs.Format.{countOf}
+use Rattle.meaning.specs.Format.{comparisonCount}
 use Rattle.meaning.specs.Reading.{codeOf}
 use Rattle.book.specs.Framed.{Framed}
 use Rattle.judge.specs.Held.{Asked, freshAt}
@@ -18,7 +18,7 @@ asked-none b W F = record {
 }
 
 -- one that was, and one more
-module _ (b W K : List ℕ) (c : ℕ) (k : Asked b W K) (l : c < countOf b 4) where
+module _ (b W K : List ℕ) (c : ℕ) (k : Asked b W K) (l : c < comparisonCount b) where
   pub asked-room : Framed b → c < length K
   asked-room F = omega (arith, l, k .long, F .counts 4 (omega arith))
 

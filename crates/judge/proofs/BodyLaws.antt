@@ -14,7 +14,8 @@ use Rattle.laws.specs.Lists.{In}
 use Rattle.laws.proofs.Entries.{in-drop, in-getD, in-take}
 use Rattle.theory.specs.Truth.{Truth}
 use Rattle.theory.specs.Answers.{Answers}
-use Rattle.meaning.specs.Format.{HypothesisRecord, body, countOf, hypothesisAt, noHypothesis, tables}
+use Rattle.meaning.specs.Format.{HypothesisRecord, atomCount, body, comparisonCount, hypothesisAt, hypothesisCount}
+use Rattle.meaning.specs.Format.{noHypothesis, ruleCount, tables}
 use Rattle.meaning.specs.Reading.{codeOf, hypothesisOf, literalOf, range, ruleOf, truthOf}
 use Rattle.meaning.specs.Reading as reading
 use Rattle.meaning.specs.Truth.{bodyTruth, comparisonTruth, hypothesisTruth, literalTruth, meet}
@@ -35,22 +36,22 @@ module _
     (b W : List ℕ)
     (h s i : ℕ)
     (I : Indexed b)
-    (l : h < countOf b 3)
+    (l : h < hypothesisCount b)
     (es : s ≡ hypothesisIn b h .sort)
     (ei : i ≡ hypothesisIn b h .index) where
-  pub index-within : i < cond (ltb s 2) (countOf b 1) (countOf b 4)
+  pub index-within : i < cond (ltb s 2) (atomCount b) (comparisonCount b)
   index-within = rw (es, ei) (I .hypothesis h l)
 
-  pub atom-of : countOf b 1 ≤ length W → s < 2 → i < length W
+  pub atom-of : atomCount b ≤ length W → s < 2 → i < length W
   atom-of m n = let p = rw (lt-ltb s 2 n) at index-within in omega (arith, p, m)
 
-  pub atom-plain : s ≡ 0 → countOf b 1 ≤ length W → i < length W
+  pub atom-plain : s ≡ 0 → atomCount b ≤ length W → i < length W
   atom-plain e m = atom-of m (omega (arith, e))
 
-  pub atom-negated : s ≡ 1 → countOf b 1 ≤ length W → i < length W
+  pub atom-negated : s ≡ 1 → atomCount b ≤ length W → i < length W
   atom-negated e m = atom-of m (omega (arith, e))
 
-  pub comparison-of : (s ≡ 0 → ⊥) → (s ≡ 1 → ⊥) → i < countOf b 4
+  pub comparison-of : (s ≡ 0 → ⊥) → (s ≡ 1 → ⊥) → i < comparisonCount b
   comparison-of n0 n1 = rw (le-ltb s 2 (above-one s n0 n1)) at index-within
 
 -- its truth, by its sort
@@ -122,11 +123,11 @@ module _ (A K : Answers) where
       ap (meet (recordTruth A K h)) (records-false hs i (omega (arith, l)) e) ∙ meet-false (recordTruth A K h)
 
 -- a rule's hypotheses are in their table
-pub rule-within : (b : List ℕ) (r first n i : ℕ) → Indexed b → r < countOf b 2 → first ≡ ruleIn b r .first →
-    n ≡ ruleIn b r .many → i < n → first + i < countOf b 3
+pub rule-within : (b : List ℕ) (r first n i : ℕ) → Indexed b → r < ruleCount b → first ≡ ruleIn b r .first →
+    n ≡ ruleIn b r .many → i < n → first + i < hypothesisCount b
 rule-within b r first n i I l p q m = omega (arith, I .rule r l, p, q, m)
 
-count-is : (b : List ℕ) → length (tables b .hypotheses) ≡ countOf b 3
+count-is : (b : List ℕ) → length (tables b .hypotheses) ≡ hypothesisCount b
 unfolding tables
 count-is b = body-length hypothesisAt b 3
 
@@ -135,8 +136,8 @@ module _
     (b : List ℕ)
     (A K : Answers)
     (I : Indexed b)
-    (known : (c : ℕ) → c < countOf b 4 → K c ≡ comparisonTruth A (comparisonRead b c)) where
-  sort-is : (s i : ℕ) → i < cond (ltb s 2) (countOf b 1) (countOf b 4) →
+    (known : (c : ℕ) → c < comparisonCount b → K c ≡ comparisonTruth A (comparisonRead b c)) where
+  sort-is : (s i : ℕ) → i < cond (ltb s 2) (atomCount b) (comparisonCount b) →
       sortTruth A K s i ≡ hypothesisTruth A (hypothesisOf (tables b) s i)
   unfolding hypothesisTruth hypothesisOf literalTruth
   sort-is zero i l = refl
@@ -152,7 +153,7 @@ module _
       let at = rw p at (I .hypothesis i (omega (arith, l, count-is b))) in
       ap₂ meet (sort-is (h .sort) (h .index) at) (records-body hs (λ x j. e x (inr j)))
 
-  pub known-body : (r : ℕ) → r < countOf b 2 →
+  pub known-body : (r : ℕ) → r < ruleCount b →
       recordsTruth A K (ruleRecords b r) ≡ bodyTruth A (ruleOf (tables b) (ruleIn b r) .body)
   unfolding ruleOf
   known-body r l =
@@ -161,7 +162,7 @@ module _
       (λ h j. in-take past (tables b .hypotheses) h
       (in-drop (ruleIn b r .first) (take past (tables b .hypotheses)) h j))
 
-fresh-body : (b W : List ℕ) → Indexed b → (r : ℕ) → r < countOf b 2 →
+fresh-body : (b W : List ℕ) → Indexed b → (r : ℕ) → r < ruleCount b →
     recordsTruth (held W) (freshAt b W) (ruleRecords b r) ≡ bodyTruth (held W) (ruleRead b r .body)
 fresh-body b W I r l = known-body b (held W) (freshAt b W) I (λ c _. refl) r l
 
@@ -177,7 +178,7 @@ module _ (b W : List ℕ) (first : ℕ) where
   module _
       (r n i x : ℕ)
       (I : Indexed b)
-      (l : r < countOf b 2)
+      (l : r < ruleCount b)
       (ef : first ≡ ruleIn b r .first)
       (en : n ≡ ruleIn b r .many)
       (m : i < n)
@@ -214,7 +215,7 @@ module _ (b W : List ℕ) (first : ℕ) where
         getD-take (first + n) (tables b .hypotheses) (first + i) noHypothesis (omega (arith, m))) ∙
         sym truth-of ∙ ap truthOf e))))
 
-  pub body-end : (r n i y : ℕ) → first ≡ ruleIn b r .first → n ≡ ruleIn b r .many → Indexed b → r < countOf b 2 →
+  pub body-end : (r n i y : ℕ) → first ≡ ruleIn b r .first → n ≡ ruleIn b r .many → Indexed b → r < ruleCount b →
       i ≤ n → n ≤ i → y ≡ codeOf (bodyTo i) → y ≡ codeOf (bodyTruth (held W) (ruleRead b r .body))
   unfolding bodyTo
   body-end r n i y ef en I k l m e =

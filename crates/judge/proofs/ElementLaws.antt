@@ -8,7 +8,7 @@ use lib.ListN.{length}
 use mir.Syntax.{w64}
 use mir.Val.{Fits}
 use Rattle.laws.proofs.Signed.{reads-back}
-use Rattle.meaning.specs.Format.{countOf}
+use Rattle.meaning.specs.Format.{atomCount, comparisonCount, elementCount}
 use Rattle.meaning.specs.Reading.{aggregateOf, codeOf, elementOf, literalOf}
 use Rattle.meaning.specs.Truth.{elementTruth, literalTruth}
 use Rattle.book.specs.Framed.{Framed, Indexed}
@@ -19,7 +19,7 @@ use Rattle.judge.specs.Ranges.{elementRead}
 use Rattle.judge.proofs.CodeLaws.{bits}
 
 module _ (b W : List ℕ) (e : ℕ) where
-  pub atom-within : (a : ℕ) → Indexed b → countOf b 1 ≤ length W → e < countOf b 5 → a ≡ elementIn b e .atom →
+  pub atom-within : (a : ℕ) → Indexed b → atomCount b ≤ length W → e < elementCount b → a ≡ elementIn b e .atom →
       a < length W
   atom-within a I l m p = omega (arith, I .element e m, l, p)
 
@@ -29,12 +29,12 @@ module _ (b W : List ℕ) (e : ℕ) where
   element-is s a x p q r = rw (← p, ← q) r
 
 -- no place of a range wraps
-pub place-fits : (b : List ℕ) (first n i : ℕ) → Framed b → first + n ≤ countOf b 5 → i < n → Fits w64 (first + i)
+pub place-fits : (b : List ℕ) (first n i : ℕ) → Framed b → first + n ≤ elementCount b → i < n → Fits w64 (first + i)
 place-fits b first n i F l m = record { fits = omega (arith, F .counts 5 (omega arith), l, m) }
 
 -- a comparison's elements are in their table
-pub elements-within : (b : List ℕ) (c first many : ℕ) → Indexed b → c < countOf b 4 → first ≡ comparisonIn b c .first →
-    many ≡ comparisonIn b c .many → first + many ≤ countOf b 5
+pub elements-within : (b : List ℕ) (c first many : ℕ) → Indexed b → c < comparisonCount b →
+    first ≡ comparisonIn b c .first → many ≡ comparisonIn b c .many → first + many ≤ elementCount b
 elements-within b c first many I l p q = omega (arith, I .comparison c l, p, q)
 
 -- its weight: 1 in a count, else its own

@@ -15,19 +15,21 @@ use Rattle.laws.specs.Lists.{any}
 use Rattle.laws.proofs.Signed.{reads-back}
 use Rattle.theory.specs.Truth.{isFalse, isTrue}
 use Rattle.theory.specs.Answers.{Answers}
-use Rattle.meaning.specs.Format.{countOf}
-use Rattle.meaning.specs.Reading.{Element, Relation, aggregateOf, codeOf, comparisonOf, elementOf, elementsOf, relationOf, truthOf}
+use Rattle.meaning.specs.Format.{elementCount}
+use Rattle.meaning.specs.Reading.{Element, Relation, aggregateOf, codeOf, comparisonOf, elementOf, elementsOf}
+use Rattle.meaning.specs.Reading.{relationOf, truthOf}
 use Rattle.meaning.specs.Truth.{comparisonTruth, decided, definite, elementTruth, extreme, holds, opposite, possible}
 use Rattle.book.specs.Records.{comparisonIn, comparisonRead, elementIn}
 use Rattle.judge.specs.Held.{held}
 use Rattle.meaning.specs.Writing.{relationCode}
+use Rattle.meaning.proofs.Unlisted.{relation-rest}
 use Rattle.judge.specs.Codes.{order, turned}
 use Rattle.judge.specs.Ranges.{elementRead, elementsRead}
 use Rattle.judge.specs.Gathered.{added, gathered, picked}
 use Rattle.judge.specs.declared.extremes.Extremes.{Extremes}
 use Rattle.laws.proofs.Lasts.{all-more, any-more}
 use Rattle.judge.proofs.CodeLaws.{bits, code-back, false-test, true-test}
-use Rattle.judge.proofs.TableLaws.{relation-back, relation-rest}
+use Rattle.judge.proofs.TableLaws.{relation-back}
 use Rattle.judge.proofs.RangeLaws.{elements-more, elements-none}
 
 -- the order: reversed for min
@@ -82,7 +84,7 @@ module _ (b W : List ℕ) (g k first : ℕ) where
   unfolding foundTo gathered
   found-start = rw (elements-none b first)
 
-  pub found-more : (n i t : ℕ) (w : ℤ) (x y : Extremes) (u v : Bool) → first + n ≤ countOf b 5 → i < n →
+  pub found-more : (n i t : ℕ) (w : ℤ) (x y : Extremes) (u v : Bool) → first + n ≤ elementCount b → i < n →
       x ≡ foundTo i → t ≡ codeOf (elementTruth (held W) (elementRead b (first + i))) →
       w ≡ elementIn b (first + i) .weight → natAbs w ≤ 2 ^ 31 →
       u ≡ order (aggregateOf g) (bits w) (toZ w64 k) → v ≡ order (aggregateOf g) (toZ w64 k) (bits w) →

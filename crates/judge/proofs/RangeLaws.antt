@@ -5,7 +5,7 @@ use Prim.Native.Nat.{ℕ, _+_, _<_}
 use native.Mathlib.Omega.{arith}
 use lib.IntN.{ℤ, _+ℤ_, +ℤ-assoc, +ℤ-idl, +ℤ-idr}
 use lib.ListN.{getD}
-use Rattle.meaning.specs.Format.{body, countOf, elementAt, noElement, tables}
+use Rattle.meaning.specs.Format.{body, elementAt, elementCount, noElement, tables}
 use Rattle.meaning.specs.Reading.{Element, elementOf, range}
 use Rattle.meaning.specs.Truth.{total}
 use Rattle.meaning.proofs.Bytes.{body-length}
@@ -23,7 +23,7 @@ module _ (b : List ℕ) (first : ℕ) where
   unfolding elementsRead
   elements-none = ap (map elementOf) (slice-start first (tables b .elements))
 
-  pub elements-more : (i : ℕ) → first + i < countOf b 5 →
+  pub elements-more : (i : ℕ) → first + i < elementCount b →
       elementsRead b first (i + 1) ≡ elementsRead b first i ++ elementRead b (first + i) ∷ []
   unfolding elementsRead tables
   elements-more i l =

@@ -12,20 +12,22 @@ use mir.Syntax.{w64}
 use mir.Val.{SFits, ofZ, toZ}
 use Rattle.laws.proofs.Signed.{fits, reads-back}
 use Rattle.theory.specs.Truth.{Truth}
-use Rattle.meaning.specs.Format.{countOf}
+use Rattle.meaning.specs.Format.{elementCount}
 use Rattle.theory.specs.Answers.{Answers}
 use Rattle.meaning.specs.Reading.{Element, Relation, aggregateOf, codeOf, comparisonOf, elementsOf, relationOf, truthOf}
-use Rattle.meaning.specs.Truth.{between, comparisonTruth, decided, elementTruth, holds, least, leastShare, most, mostShare, opposite, total}
+use Rattle.meaning.specs.Truth.{between, comparisonTruth, decided, elementTruth, holds, least, leastShare, most}
+use Rattle.meaning.specs.Truth.{mostShare, opposite, total}
 use Rattle.book.specs.Framed.{Framed}
 use Rattle.book.specs.Records.{comparisonIn, comparisonRead}
 use Rattle.judge.specs.Held.{held}
 use Rattle.meaning.specs.Writing.{relationCode}
+use Rattle.meaning.proofs.Unlisted.{relation-rest}
 use Rattle.judge.specs.Codes.{weighing}
 use Rattle.judge.specs.Ranges.{elementRead, elementsRead}
 use Rattle.judge.specs.declared.sums.Ends.{Ends}
 use Rattle.laws.proofs.Sizes.{abs-add}
 use Rattle.judge.proofs.CodeLaws.{bits, code-back}
-use Rattle.judge.proofs.TableLaws.{relation-back, relation-rest}
+use Rattle.judge.proofs.TableLaws.{relation-back}
 use Rattle.judge.proofs.RangeLaws.{elements-more, elements-none, total-more}
 
 -- a share is no larger than its weight
@@ -64,7 +66,7 @@ module _ (share : Truth → ℤ → ℤ) (b W : List ℕ) (g first : ℕ) where
       (n i s t : ℕ)
       (w x : ℤ)
       (F : Framed b)
-      (within : first + n ≤ countOf b 5)
+      (within : first + n ≤ elementCount b)
       (l : i < n)
       (sum : Summed i s)
       (small : Small share)

@@ -14,6 +14,7 @@ use Rattle.laws.proofs.Searches.{table-rule}
 use Rattle.meaning.specs.Reading.{Relation, aggregateOf, relationOf}
 use Rattle.meaning.specs.Truth.{mirror, opposite}
 use Rattle.meaning.specs.Writing.{relationCode}
+use Rattle.meaning.proofs.Unlisted.{relation-past}
 use Rattle.judge.specs.Codes.{turned}
 
 -- a relation is read back from its code
@@ -24,22 +25,6 @@ relation-back Relation.lt = refl
 relation-back Relation.le = refl
 relation-back Relation.gt = refl
 relation-back Relation.ge = refl
-
--- codes that are not listed are read as the last
-pub relation-rest : (x : ℕ) → (x ≡ 0 → ⊥) → (x ≡ 1 → ⊥) → (x ≡ 2 → ⊥) → (x ≡ 3 → ⊥) → (x ≡ 4 → ⊥) →
-    (x ≡ 5 → ⊥) → relationOf x ≡ Relation.ge
-relation-rest zero a b c d e f = absurd (a refl)
-relation-rest (suc zero) a b c d e f = absurd (b refl)
-relation-rest (suc (suc zero)) a b c d e f = absurd (c refl)
-relation-rest (suc (suc (suc zero))) a b c d e f = absurd (d refl)
-relation-rest (suc (suc (suc (suc zero)))) a b c d e f = absurd (e refl)
-relation-rest (suc (suc (suc (suc (suc zero))))) a b c d e f = absurd (f refl)
-relation-rest (suc (suc (suc (suc (suc (suc x)))))) a b c d e f = refl
-
-relation-past : (x : ℕ) → 6 ≤ x → relationOf x ≡ Relation.ge
-relation-past x l =
-    relation-rest x (λ e. omega (arith, e)) (λ e. omega (arith, e)) (λ e. omega (arith, e)) (λ e. omega (arith, e))
-    (λ e. omega (arith, e)) (λ e. omega (arith, e))
 
 -- a table of codes follows a rule of relations, by one search through it
 module _ (rule : Relation → Relation) where

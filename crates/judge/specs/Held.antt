@@ -6,7 +6,7 @@ use mathlib.Core.List.{List, [], _∷_}
 use lib.ListN.{length, getD}
 use Rattle.theory.specs.Truth.{Truth, flip}
 use Rattle.theory.specs.Answers.{Answers}
-use Rattle.meaning.specs.Format.{HypothesisRecord, countOf, tables}
+use Rattle.meaning.specs.Format.{HypothesisRecord, comparisonCount, tables}
 use Rattle.meaning.specs.Reading.{codeOf, range, truthOf}
 use Rattle.meaning.specs.Truth.{comparisonTruth, meet}
 use Rattle.book.specs.Records.{comparisonRead, ruleIn}
@@ -22,7 +22,7 @@ freshAt b W c = comparisonTruth (held W) (comparisonRead b c)
 -- K has it for each comparison that was asked for, and 3 for the others
 pub record Asked (b W K : List ℕ) : Type 0 where
   pub long : length K ≡ 512
-  pub truths : (c : ℕ) → c < countOf b 4 → (getD K c 0 ≡ 3 → ⊥) → getD K c 0 ≡ codeOf (freshAt b W c)
+  pub truths : (c : ℕ) → c < comparisonCount b → (getD K c 0 ≡ 3 → ⊥) → getD K c 0 ≡ codeOf (freshAt b W c)
 
 -- a hypothesis at answers A, comparison c having the truth K c
 abbrev pub sortTruth : Answers → Answers → ℕ → ℕ → Truth

@@ -2,10 +2,10 @@
 ghost use mathlib.Core.Path.{_≡_};
 ghost use Prim.Native.Nat.{_<_, _≤_};
 ghost use lib.ListN.{length};
-ghost use Rattle.meaning.specs.Format.{countOf};
+ghost use Rattle.meaning.specs.Format.{atomCount, comparisonCount, hypothesisCount, ruleCount};
 ghost use Rattle.meaning.specs.Reading.{codeOf};
 ghost use Rattle.meaning.specs.Truth.{bodyTruth};
-ghost use Rattle.book.specs.Framed.{Framed, Indexed};
+ghost use Rattle.book.specs.Framed.{Ready};
 ghost use Rattle.book.specs.Records.{hypothesisIn, ruleRead};
 ghost use Rattle.judge.specs.Held.{Asked, freshAt, held, recordTruth};
 use crate::comparison::comparison;
@@ -17,8 +17,8 @@ use book::fields::rule_many;
 
 // Comparison c: 3 stands for one that no rule has asked for yet.
 fn compared(book: &[u8], answers: &[u8], known: &mut [u8], c: usize) -> u8
-    requires { ⌜ Framed (now book) × Indexed (now book) × (countOf (now book) 1 ≤ length (now answers))
-        × Asked (now book) (now answers) (now known) × (c < countOf (now book) 4) ⌝ }
+    requires { let b = now book in let A = now answers in
+        ⌜ Ready b × (atomCount b ≤ length A) × Asked b A (now known) × (c < comparisonCount b) ⌝ }
     ensures is { λ r. ⌜ r ≡ codeOf (freshAt (now (book .entry)) (now (answers .entry)) c) ⌝ }
     ensures asked { λ r. ⌜ Asked (now (book .entry)) (now (answers .entry)) (now (known .exit)) ⌝ }
 {
@@ -33,10 +33,10 @@ fn compared(book: &[u8], answers: &[u8], known: &mut [u8], c: usize) -> u8
 
 // 0 atom, 1 not atom, 2 comparison.
 fn hypothesis(book: &[u8], answers: &[u8], known: &mut [u8], h: usize) -> u8
-    requires { ⌜ Framed (now book) × Indexed (now book) × (countOf (now book) 1 ≤ length (now answers))
-        × Asked (now book) (now answers) (now known) × (h < countOf (now book) 3) ⌝ }
-    ensures is { λ r. ⌜ r ≡ codeOf (recordTruth (held (now (answers .entry)))
-        (freshAt (now (book .entry)) (now (answers .entry))) (hypothesisIn (now (book .entry)) h)) ⌝ }
+    requires { let b = now book in let A = now answers in
+        ⌜ Ready b × (atomCount b ≤ length A) × Asked b A (now known) × (h < hypothesisCount b) ⌝ }
+    ensures is { λ r. let b = now (book .entry) in let A = now (answers .entry) in
+        ⌜ r ≡ codeOf (recordTruth (held A) (freshAt b A) (hypothesisIn b h)) ⌝ }
     ensures asked { λ r. ⌜ Asked (now (book .entry)) (now (answers .entry)) (now (known .exit)) ⌝ }
 {
     let sort = hypothesis_sort(book, h);
@@ -50,8 +50,8 @@ fn hypothesis(book: &[u8], answers: &[u8], known: &mut [u8], h: usize) -> u8
 
 // True when all hypotheses are true and false when one is false: the first false one ends the reading.
 pub fn body(book: &[u8], answers: &[u8], known: &mut [u8], r: usize) -> u8
-    requires { ⌜ Framed (now book) × Indexed (now book) × (countOf (now book) 1 ≤ length (now answers))
-        × Asked (now book) (now answers) (now known) × (r < countOf (now book) 2) ⌝ }
+    requires { let b = now book in let A = now answers in
+        ⌜ Ready b × (atomCount b ≤ length A) × Asked b A (now known) × (r < ruleCount b) ⌝ }
     ensures is { λ x. ⌜ x ≡ codeOf (bodyTruth (held (now (answers .entry)))
         (ruleRead (now (book .entry)) r .body)) ⌝ }
     ensures asked { λ x. ⌜ Asked (now (book .entry)) (now (answers .entry)) (now (known .exit)) ⌝ }

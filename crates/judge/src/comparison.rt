@@ -2,10 +2,10 @@
 ghost use mathlib.Core.Path.{_≡_};
 ghost use Prim.Native.Nat.{_<_, _≤_};
 ghost use lib.ListN.{length};
-ghost use Rattle.meaning.specs.Format.{countOf};
+ghost use Rattle.meaning.specs.Format.{atomCount, comparisonCount};
 ghost use Rattle.meaning.specs.Reading.{codeOf};
 ghost use Rattle.meaning.specs.Truth.{comparisonTruth};
-ghost use Rattle.book.specs.Framed.{Framed, Indexed};
+ghost use Rattle.book.specs.Framed.{Ready};
 ghost use Rattle.book.specs.Records.{comparisonRead};
 ghost use Rattle.judge.specs.Held.{held};
 use crate::extremes::extreme_truth;
@@ -14,8 +14,7 @@ use book::fields::comparison_aggregate;
 
 // 0 count, 1 sum, 2 min, 3 max; a code that is not listed is read as the last.
 pub fn comparison(book: &[u8], answers: &[u8], c: usize) -> u8
-    requires { ⌜ Framed (now book) × Indexed (now book) × (countOf (now book) 1 ≤ length (now answers)) ×
-        (c < countOf (now book) 4) ⌝ }
+    requires { let b = now book in ⌜ Ready b × (atomCount b ≤ length (now answers)) × (c < comparisonCount b) ⌝ }
     ensures { λ r. ⌜ r ≡ codeOf (comparisonTruth (held (now (answers .entry)))
         (comparisonRead (now (book .entry)) c)) ⌝ }
 {

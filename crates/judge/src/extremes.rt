@@ -4,10 +4,10 @@ ghost use mathlib.Core.Bool.{_&&_, not};
 ghost use Prim.Native.Nat.{_+_, _<_, _≤_};
 ghost use lib.ListN.{length};
 ghost use Rattle.theory.specs.Truth.{isFalse, isTrue};
-ghost use Rattle.meaning.specs.Format.{countOf};
+ghost use Rattle.meaning.specs.Format.{atomCount, comparisonCount, elementCount};
 ghost use Rattle.meaning.specs.Reading.{aggregateOf, codeOf, relationOf, truthOf};
 ghost use Rattle.meaning.specs.Truth.{comparisonTruth};
-ghost use Rattle.book.specs.Framed.{Framed, Indexed};
+ghost use Rattle.book.specs.Framed.{Ready};
 ghost use Rattle.book.specs.Records.{comparisonIn, comparisonRead};
 ghost use Rattle.judge.specs.Held.{held};
 ghost use Rattle.judge.specs.Codes.{order, turned};
@@ -72,8 +72,8 @@ fn gather(
     first: usize,
     many: usize,
 ) -> Extremes
-    requires { ⌜ Framed (now book) × Indexed (now book) × (countOf (now book) 1 ≤ length (now answers)) ×
-        (first + many ≤ countOf (now book) 5) ⌝ }
+    requires { let b = now book in
+        ⌜ Ready b × (atomCount b ≤ length (now answers)) × (first + many ≤ elementCount b) ⌝ }
     ensures { λ r. ⌜ r ≡ gathered (order (aggregateOf aggregate)) (held (now (answers .entry))) k
         (elementsRead (now (book .entry)) first many) ⌝ }
 {
@@ -130,8 +130,9 @@ fn attained(found: Extremes, relation: usize) -> bool
 
 // Comparison c, of min or max.
 pub fn extreme_truth(book: &[u8], answers: &[u8], aggregate: usize, c: usize) -> u8
-    requires { ⌜ Framed (now book) × Indexed (now book) × (countOf (now book) 1 ≤ length (now answers)) ×
-        (c < countOf (now book) 4) × (aggregate ≡ comparisonIn (now book) c .aggregate) × (2 ≤ aggregate) ⌝ }
+    requires { let b = now book in
+        ⌜ Ready b × (atomCount b ≤ length (now answers)) × (c < comparisonCount b)
+        × (aggregate ≡ comparisonIn b c .aggregate) × (2 ≤ aggregate) ⌝ }
     ensures { λ r. ⌜ r ≡ codeOf (comparisonTruth (held (now (answers .entry)))
         (comparisonRead (now (book .entry)) c)) ⌝ }
 {

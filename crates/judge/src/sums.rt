@@ -2,10 +2,10 @@
 ghost use mathlib.Core.Path.{_≡_};
 ghost use Prim.Native.Nat.{_+_, _<_, _≤_};
 ghost use lib.ListN.{length};
-ghost use Rattle.meaning.specs.Format.{countOf};
+ghost use Rattle.meaning.specs.Format.{atomCount, comparisonCount, elementCount};
 ghost use Rattle.meaning.specs.Reading.{aggregateOf, codeOf, relationOf, truthOf};
 ghost use Rattle.meaning.specs.Truth.{between, comparisonTruth, least, leastShare, most, mostShare};
-ghost use Rattle.book.specs.Framed.{Framed, Indexed};
+ghost use Rattle.book.specs.Framed.{Ready};
 ghost use Rattle.book.specs.Records.{comparisonIn, comparisonRead};
 ghost use Rattle.judge.specs.Held.{held};
 ghost use Rattle.judge.specs.Codes.{weighing};
@@ -47,12 +47,11 @@ fn most_share(truth: u8, w: i64) -> i64
 }
 
 fn ends_of(book: &[u8], answers: &[u8], aggregate: usize, first: usize, many: usize) -> Ends
-    requires { ⌜ Framed (now book) × Indexed (now book) × (countOf (now book) 1 ≤ length (now answers)) ×
-        (first + many ≤ countOf (now book) 5) ⌝ }
-    ensures { λ r. ⌜ (r .least ≡ least (weighing (aggregateOf aggregate)) (held (now (answers .entry)))
-        (elementsRead (now (book .entry)) first many)) ×
-        (r .most ≡ most (weighing (aggregateOf aggregate)) (held (now (answers .entry)))
-        (elementsRead (now (book .entry)) first many)) ⌝ }
+    requires { let b = now book in
+        ⌜ Ready b × (atomCount b ≤ length (now answers)) × (first + many ≤ elementCount b) ⌝ }
+    ensures { λ r. let b = now (book .entry) in let A = now (answers .entry) in
+        ⌜ (r .least ≡ least (weighing (aggregateOf aggregate)) (held A) (elementsRead b first many))
+        × (r .most ≡ most (weighing (aggregateOf aggregate)) (held A) (elementsRead b first many)) ⌝ }
 {
     let mut least: i64 = 0;
     let mut most: i64 = 0;
@@ -84,8 +83,9 @@ fn between_holds(relation: usize, least: i64, most: i64, k: i64) -> bool
 
 // Comparison c, of count or sum.
 pub fn sum_truth(book: &[u8], answers: &[u8], aggregate: usize, c: usize) -> u8
-    requires { ⌜ Framed (now book) × Indexed (now book) × (countOf (now book) 1 ≤ length (now answers)) ×
-        (c < countOf (now book) 4) × (aggregate ≡ comparisonIn (now book) c .aggregate) × (aggregate < 2) ⌝ }
+    requires { let b = now book in
+        ⌜ Ready b × (atomCount b ≤ length (now answers)) × (c < comparisonCount b)
+        × (aggregate ≡ comparisonIn b c .aggregate) × (aggregate < 2) ⌝ }
     ensures { λ r. ⌜ r ≡ codeOf (comparisonTruth (held (now (answers .entry)))
         (comparisonRead (now (book .entry)) c)) ⌝ }
 {

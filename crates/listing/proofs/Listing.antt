@@ -15,7 +15,7 @@ use denote.Ref.{now}
 use denote.Triple.Clauses.{AtExit}
 use borrow.Author.Tests.{ne-eqb}
 use Rattle.io.specs.Counts.{Counts}
-use Rattle.meaning.specs.Format.{countOf}
+use Rattle.meaning.specs.Format.{atomCount}
 use Rattle.meaning.specs.Reading.{codeOf, truthOf}
 use Rattle.meaning.specs.Refusal.{Refusal, packed, refusal}
 use Rattle.meaning.specs.Demands.{Accepted}
@@ -56,13 +56,13 @@ refused-text b r e =
     (packed-apart r S)
 
 answered-text : (b : List ℕ) → Accepted b roomLength →
-    listingOf b ≡ answersText (countOf b 1) (map codeOf (modelOf b))
+    listingOf b ≡ answersText (atomCount b) (map codeOf (modelOf b))
 unfolding textOf listingOf written
 answered-text b e =
-    let l : length (map codeOf (modelOf b)) ≡ countOf b 1 =
+    let l : length (map codeOf (modelOf b)) ≡ atomCount b =
     length-map (modelOf b) codeOf ∙ model-length b roomLength e ∙ atoms-length b in
     rw (accepted b zeros (ap (refusal b) zeros-long ∙ e))
-    (answers-same (countOf b 1) (written (modelOf b) zeros) (map codeOf (modelOf b))
+    (answers-same (atomCount b) (written (modelOf b) zeros) (map codeOf (modelOf b))
     (λ a m. List·getD-append (map codeOf (modelOf b)) (drop (length (modelOf b)) zeros) 0 a (omega (arith, m, l))))
 
 -- an accepted book is no longer than the largest, and a longer one has the refusal of its start

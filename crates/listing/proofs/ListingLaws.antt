@@ -6,7 +6,7 @@ use Prim.Native.Nat.{ℕ, _≤_}
 use native.Mathlib.Omega.{arith}
 use lib.ListN.{length, take, length-replicate, replicate}
 use borrow.Author.Tests.{eq-eqb, ne-eqb}
-use Rattle.meaning.specs.Format.{contents, countOf, start, tables}
+use Rattle.meaning.specs.Format.{atomCount, contents, start, tables}
 use Rattle.meaning.specs.Refusal.{Refusal, packed, refusal, refusals}
 use Rattle.meaning.specs.Demands.{Accepted}
 use Rattle.meaning.specs.Outcome.{Outcome, outcome}
@@ -67,11 +67,11 @@ module _ (b : List ℕ) (e : Accepted b roomLength) where
         few 5 (omega arith),
       )
 
-  pub accepted-few : (n : ℕ) → n ≡ countOf b 1 → n ≤ roomLength
+  pub accepted-few : (n : ℕ) → n ≡ atomCount b → n ≤ roomLength
   accepted-few n q = omega (arith, q, atoms-length b, room-enough b roomLength e)
 
 module _ (b out room after : List ℕ) (n r : ℕ) (e : n ≡ outcome b zeros .number) where
-  pub listed-answers : (k : ℕ) → n ≡ 0 → k ≡ countOf b 1 → room ≡ outcome b zeros .room →
+  pub listed-answers : (k : ℕ) → n ≡ 0 → k ≡ atomCount b → room ≡ outcome b zeros .room →
       Put out 0 (answersText k room) after r → take r after ≡ listingOf b
   unfolding textOf listingOf
   listed-answers k z q f P =

@@ -11,14 +11,17 @@ use lib.ListN.{length, length-map}
 use borrow.Author.Tests.{le-ltb}
 use Rattle.meaning.specs.Format.{Tables, contents, end, limits, sizes, tables}
 use Rattle.meaning.specs.Reading.{levelsOf, reading, ruleOf}
-use Rattle.meaning.specs.Refusal.{Refusal, astray, firstOf, frameRefusals, misplaced, refusal, refusal1, refusal10, refusal11, refusal12, refusal2, refusal3, refusal4, refusal5, refusal6, refusal7, refusal8, refusal9, stray, tooMany, unlisted}
+use Rattle.meaning.specs.Refusal.{Refusal, astray, firstOf, frameRefusals, misplaced, refusal, refusal1, refusal10}
+use Rattle.meaning.specs.Refusal.{refusal11, refusal12, refusal2, refusal3, refusal4, refusal5, refusal6, refusal7}
+use Rattle.meaning.specs.Refusal.{refusal8, refusal9, stray, tooMany, unlisted}
 use Rattle.meaning.proofs.Bytes.{atoms-length}
 use Rattle.book.specs.Framed.{Framed}
 use Rattle.book.proofs.Counts.{comparisons-length, elements-length, hypotheses-length, predicates-length, rules-length}
 use Rattle.checks.proofs.FrameLaws.{framed}
 use Rattle.meaning.proofs.Absent.{first-append, first-found}
 use Rattle.listing.specs.Text.{roomLength}
-use Rattle.listing.proofs.SmallLaws.{AllSmall, Small, Smalls, _and_, first-small, if-small, lowest-small, nil, none-small, table-small}
+use Rattle.listing.proofs.SmallLaws.{AllSmall, Small, Smalls, _and_, first-small, if-small, lowest-small, nil}
+use Rattle.listing.proofs.SmallLaws.{none-small, table-small}
 
 -- refusals 1 to 3
 frame-small : (b : List ℕ) → Smalls (frameRefusals b)

@@ -5,7 +5,7 @@ use mathlib.Core.List.{List, [], _∷_, _++_}
 use lib.Dec.{eqb, ltb}
 use lib.ListN.{getD, replicate}
 use Rattle.theory.specs.Truth.{Truth}
-use Rattle.meaning.specs.Format.{countOf}
+use Rattle.meaning.specs.Format.{atomCount}
 use Rattle.meaning.specs.Reading.{truthOf}
 use Rattle.meaning.specs.Outcome.{Outcome, outcome}
 use Rattle.listing.specs.Ascii.{ascii}
@@ -72,4 +72,4 @@ readMost = 64817
 
 -- what the program prints for a book
 unfoldable pub listingOf : List ℕ → List ℕ
-listingOf b = textOf (countOf b 1) (outcome b (replicate roomLength 0))
+listingOf b = textOf (atomCount b) (outcome b (replicate roomLength 0))

@@ -3,7 +3,7 @@ ghost use mathlib.Core.Path.{_≡_};
 ghost use Prim.Native.Nat.{_+_, _*_, _≤_};
 ghost use lib.ListN.{length, take, drop};
 ghost use Rattle.io.specs.Counts.{Counts};
-ghost use Rattle.meaning.specs.Format.{countOf};
+ghost use Rattle.meaning.specs.Format.{atomCount};
 ghost use Rattle.meaning.specs.Demands.{Accepted};
 ghost use Rattle.listing.specs.Put.{Put};
 ghost use Rattle.listing.specs.Text.{answersText, linesOf, listingOf, packedText, refusedText, roomLength};
@@ -14,6 +14,7 @@ use crate::text::put_number;
 use crate::text::put_place;
 use crate::text::put_spaced;
 use book::readers::count_of;
+use book::tables::ATOMS;
 use engine::answer::answer;
 
 // The answer room is always long enough.
@@ -85,9 +86,9 @@ fn put_packed(out: &mut [u8], packed: u32) -> usize
 // How many atoms an accepted book has.
 fn atoms_of(book: &[u8]) -> usize
     requires { ⌜ Accepted (now book) roomLength ⌝ }
-    ensures { λ r. ⌜ (r ≡ countOf (now (book .entry)) 1) × (r ≤ roomLength) ⌝ }
+    ensures { λ r. ⌜ (r ≡ atomCount (now (book .entry))) × (r ≤ roomLength) ⌝ }
 {
-    count_of(book, 1)
+    count_of(book, ATOMS)
 }
 
 // What the program prints for a book, at the start of the buffer; later bytes stay.

@@ -16,9 +16,16 @@ use Rattle.laws.proofs.Tests.{and-fails, either-fails, test-clash}
 use Rattle.laws.proofs.Entries.{any-none, gather-in, getD-in, in-drop, in-take, map-at, map-in}
 use Rattle.laws.proofs.Places.{place-in}
 use Rattle.theory.specs.Truth.{Truth}
-use Rattle.meaning.specs.Format.{Atom, ComparisonRecord, HypothesisRecord, Predicate, RuleRecord, Tables, tables, noAtom, noComparison, noElement, noHypothesis, noPredicate, noRule}
-use Rattle.meaning.specs.Reading.{Kind, Rule, atomOf, comparisonOf, elementOf, elementsOf, givenIn, givenOf, hypothesisIn, hypothesisOf, isCertain, isOpen, kindAt, kindIn, kindOf, levelAt, levelCount, levelIn, levelsOf, literalOf, predicateOf, range, reading, ruleOf, truthOf}
-use Rattle.meaning.specs.Refusal.{Use, concluded, elementUse, givenWrongly, mixed, mixedBelow, ownNonPositive, refusal, refusal10, refusal11, refusal4, refusal5, refusal7, refusal8, refusal9, refusals, stray, strayAtom, strayElement, strayHypothesis, strayRule, unlisted, unlistedPredicate, uses, usesHigher, usesNonPositively, usesOf, usesUncertain}
+use Rattle.meaning.specs.Format.{Atom, ComparisonRecord, HypothesisRecord, Predicate, RuleRecord, Tables, tables}
+use Rattle.meaning.specs.Format.{noAtom, noComparison, noElement, noHypothesis, noPredicate, noRule}
+use Rattle.meaning.specs.Reading.{Kind, Rule, atomOf, comparisonOf, elementOf, elementsOf, givenIn, givenOf}
+use Rattle.meaning.specs.Reading.{hypothesisIn, hypothesisOf, isCertain, isOpen, kindAt, kindIn, kindOf, levelAt}
+use Rattle.meaning.specs.Reading.{levelCount, levelIn, levelsOf, literalOf, predicateOf, range, reading, ruleOf}
+use Rattle.meaning.specs.Reading.{truthOf}
+use Rattle.meaning.specs.Refusal.{Use, concluded, elementUse, givenWrongly, mixed, mixedBelow, ownNonPositive}
+use Rattle.meaning.specs.Refusal.{refusal, refusal10, refusal11, refusal4, refusal5, refusal7, refusal8, refusal9}
+use Rattle.meaning.specs.Refusal.{refusals, stray, strayAtom, strayElement, strayHypothesis, strayRule, unlisted}
+use Rattle.meaning.specs.Refusal.{unlistedPredicate, uses, usesHigher, usesNonPositively, usesOf, usesUncertain}
 use Rattle.meaning.specs.Model.{answersOf}
 use Rattle.meaning.proofs.Absent.{clear-at, clear-entry, none-each}
 use Rattle.meaning.proofs.KindLaws.{certain-of, open-of}

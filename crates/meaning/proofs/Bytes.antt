@@ -8,7 +8,8 @@ use native.Mathlib.Decide.{decLt}
 use native.Mathlib.Nat.{mul-suc}
 use lib.ListN.{length, getD, drop}
 use lib.Seq.{drop-drop, getD-drop}
-use Rattle.meaning.specs.Format.{atomAt, body, comparisonAt, countOf, elementAt, hypothesisAt, offsetOf, predicateAt, rows, ruleAt, sizes, start, tables, u16At, u32At, u8At}
+use Rattle.meaning.specs.Format.{atomAt, atomCount, body, comparisonAt, countOf, elementAt, hypothesisAt}
+use Rattle.meaning.specs.Format.{offsetOf, predicateAt, rows, ruleAt, sizes, start, tables, u16At, u32At, u8At}
 
 -- the first n bytes are the same
 abbrev pub Same : ℕ → List ℕ → List ℕ → Type 0
@@ -126,6 +127,6 @@ body-at read d b k i l =
     rows-at read z d (countOf b k) (drop (start b k) b) i l ∙ ap read (drop-drop (z * i) (start b k) b)
 
 -- how many atoms there are
-pub atoms-length : (b : List ℕ) → length (tables b .atoms) ≡ countOf b 1
+pub atoms-length : (b : List ℕ) → length (tables b .atoms) ≡ atomCount b
 unfolding tables
 atoms-length b = body-length atomAt b 1

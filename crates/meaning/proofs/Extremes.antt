@@ -9,7 +9,8 @@ use Rattle.laws.proofs.Tests.{left, right, or-of, not-of, and-map, or-map, not-
 use Rattle.laws.proofs.Entries.{any-entry, all-entry, any-map, all-map}
 use Rattle.theory.specs.Answers.{Answers}
 use Rattle.meaning.specs.Reading.{Element, Relation}
-use Rattle.meaning.specs.Truth.{allPossible, attained, definite, extreme, opposite, possible, related, someDefinite}
+use Rattle.meaning.specs.Truth.{allPossible, attained, definite, extreme, opposite, possible, related}
+use Rattle.meaning.specs.Truth.{someDefinite}
 use Rattle.meaning.specs.Refusal.{isAbove}
 use Rattle.meaning.proofs.Relations.{by-opposites, by-above, related-clash}
 use Rattle.meaning.proofs.Elements.{Definite, Possible, definite-possible}

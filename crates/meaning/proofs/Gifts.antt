@@ -13,7 +13,9 @@ use Rattle.laws.proofs.Tests.{fails-of}
 use Rattle.laws.proofs.Entries.{none-any}
 use Rattle.meaning.specs.Format.{Atom, Tables, start, tables, noAtom}
 use Rattle.meaning.specs.Reading.{elementsOf, isOpen, kindAt, reading}
-use Rattle.meaning.specs.Refusal.{concluded, givenWrongly, lowest, misplaced, refusal, refusal1, refusal12, refusal2, refusal3, refusal4, refusal5, refusal6, refusal7, refusal8, refusals, stray, strayAtom, unlisted, unlistedAtom}
+use Rattle.meaning.specs.Refusal.{concluded, givenWrongly, lowest, misplaced, refusal, refusal1, refusal12}
+use Rattle.meaning.specs.Refusal.{refusal2, refusal3, refusal4, refusal5, refusal6, refusal7, refusal8, refusals}
+use Rattle.meaning.specs.Refusal.{stray, strayAtom, unlisted, unlistedAtom}
 use Rattle.meaning.specs.Demands.{Accepted, Gift, Gives}
 use Rattle.meaning.proofs.Absent.{at-clear, clear-at, each-none, none-each}
 use Rattle.meaning.proofs.Accepted.{atomAt}

@@ -13,12 +13,17 @@ use Rattle.laws.proofs.Places.{getD-out}
 use Rattle.theory.specs.Truth.{Truth}
 use Rattle.theory.specs.Answers.{_⊑_}
 use Rattle.theory.proofs.Truth.{undefined-false, undefined-true, ≼-refl}
-use Rattle.meaning.specs.Format.{Atom, ComparisonRecord, HypothesisRecord, Predicate, RuleRecord, Tables, atomAt, body, comparisonAt, countOf, elementAt, hypothesisAt, predicateAt, ruleAt, sizes, start, tables, noAtom, noComparison}
-use Rattle.meaning.specs.Reading.{Hypothesis, Reading, Rule, comparisonOf, elementsOf, givenOf, hypothesisOf, kindIn, kindOf, levelIn, levelsOf, predicateOf, range, reading, ruleOf}
+use Rattle.meaning.specs.Format.{Atom, ComparisonRecord, HypothesisRecord, Predicate, RuleRecord, Tables, atomAt}
+use Rattle.meaning.specs.Format.{atomCount, body, comparisonAt, elementAt, hypothesisAt, noAtom, noComparison}
+use Rattle.meaning.specs.Format.{predicateAt, predicateCount, ruleAt, sizes, start, tables}
+use Rattle.meaning.specs.Reading.{Hypothesis, Reading, Rule, comparisonOf, elementsOf, givenOf, hypothesisOf}
+use Rattle.meaning.specs.Reading.{kindIn, kindOf, levelIn, levelsOf, predicateOf, range, reading, ruleOf}
 use Rattle.meaning.specs.Model.{answersOf}
 use Rattle.meaning.specs.Demands.{Gift, Gives}
 use Rattle.meaning.proofs.Accepted.{given-at, given-length}
-use Rattle.meaning.proofs.Bytes.{Local, Same, atoms-length, body-at, body-same, comparison-local, count-same, element-local, hypothesis-local, predicate-local, rule-local, start-rises, start-same}
+use Rattle.meaning.proofs.Bytes.{Local, Same, atoms-length, body-at, body-same, comparison-local, count-same}
+use Rattle.meaning.proofs.Bytes.{element-local, hypothesis-local, predicate-local, rule-local, start-rises}
+use Rattle.meaning.proofs.Bytes.{start-same}
 
 -- tables that differ in what is given of the atoms alone
 pub record Alike (t t′ : Tables) : Type 0 where
@@ -97,11 +102,11 @@ module _ (b b′ : List ℕ) (G : Gives b b′) where
   t′ = tables b′
 
   -- the atoms stand after the predicates, and the other tables after the atoms
-  start-one : start b 1 ≡ 48 + 2 * countOf b 0
+  start-one : start b 1 ≡ 48 + 2 * predicateCount b
   unfolding start
   start-one = refl
 
-  start-two : start b 2 ≡ start b 1 + 3 * countOf b 1
+  start-two : start b 2 ≡ start b 1 + 3 * atomCount b
   unfolding start
   start-two = refl
 
@@ -124,18 +129,18 @@ module _ (b b′ : List ℕ) (G : Gives b b′) where
       sym (body-same b b′ header read k low loc (λ i p _. outside i (inr (omega (arith, p, start-rises b 2 k l)))))
 
   -- the atoms: as many, and each at the same place
-  pub count-atoms : countOf b 1 ≡ countOf b′ 1
+  pub count-atoms : atomCount b ≡ atomCount b′
   count-atoms = count-same b b′ header 1 (omega arith)
 
   -- where an atom's record starts
   abbrev place : ℕ → ℕ
   place a = start b 1 + 3 * a
 
-  atom-first : (a : ℕ) → a < countOf b 1 → getD (t .atoms) a noAtom ≡ atomAt (drop (place a) b)
+  atom-first : (a : ℕ) → a < atomCount b → getD (t .atoms) a noAtom ≡ atomAt (drop (place a) b)
   unfolding tables
   atom-first a l = body-at atomAt noAtom b 1 a l
 
-  atom-second : (a : ℕ) → a < countOf b 1 → getD (t′ .atoms) a noAtom ≡ atomAt (drop (place a) b′)
+  atom-second : (a : ℕ) → a < atomCount b → getD (t′ .atoms) a noAtom ≡ atomAt (drop (place a) b′)
   unfolding tables
   atom-second a l =
       body-at atomAt noAtom b′ 1 a (omega (arith, l, count-atoms)) ∙
@@ -159,21 +164,21 @@ module _ (b b′ : List ℕ) (G : Gives b b′) where
     elements = later-same elementAt 5 (omega arith) (omega arith) element-local;
     long = atoms-length b′ ∙ sym count-atoms ∙ sym (atoms-length b);
     same = λ a k.
-        let l : a < countOf b 1 = omega (arith, k, atoms-length b) in
+        let l : a < atomCount b = omega (arith, k, atoms-length b) in
         ap (λ (x : Atom). x .predicate) (atom-second a l) ∙
         ap₂ {C = ℕ} (λ (x y : ℕ). x + 256 * y) (predicate-byte a 0 (omega arith)) (predicate-byte a 1 (omega arith)) ∙
         sym (ap (λ (x : Atom). x .predicate) (atom-first a l));
   }
 
   -- an atom's given byte is its third
-  given-first : (a : ℕ) → a < countOf b 1 → getD (t .atoms) a noAtom .given ≡ getD b (place a + 2) 0
+  given-first : (a : ℕ) → a < atomCount b → getD (t .atoms) a noAtom .given ≡ getD b (place a + 2) 0
   given-first a l = ap (λ (x : Atom). x .given) (atom-first a l) ∙ getD-drop (place a) b 2 0
 
-  pub given-second : (a : ℕ) → a < countOf b 1 → getD (t′ .atoms) a noAtom .given ≡ getD b′ (start b 1 + 3 * a + 2) 0
+  pub given-second : (a : ℕ) → a < atomCount b → getD (t′ .atoms) a noAtom .given ≡ getD b′ (start b 1 + 3 * a + 2) 0
   given-second a l = ap (λ (x : Atom). x .given) (atom-second a l) ∙ getD-drop (place a) b′ 2 0
 
   -- what is given of an atom stays, or is a gift
-  pub given-either : (a : ℕ) → a < countOf b 1 → (getD (t′ .atoms) a noAtom .given ≡ getD (t .atoms) a noAtom .given)
+  pub given-either : (a : ℕ) → a < atomCount b → (getD (t′ .atoms) a noAtom .given ≡ getD (t .atoms) a noAtom .given)
       ⊎ Gift b b′ (start b 1 + 3 * a + 2) a
   given-either a l =
       ⊎-elim (λ e. inl (given-second a l ∙ e ∙ sym (given-first a l)))
@@ -183,7 +188,7 @@ module _ (b b′ : List ℕ) (G : Gives b b′) where
   -- the given answers of the first are kept
   pub given-grows : answersOf (givenOf t) ⊑ answersOf (givenOf t′)
   given-grows a =
-      by-cases (decLt a (countOf b 1))
+      by-cases (decLt a (atomCount b))
       (λ l.
       let k : a < length (t .atoms) = omega (arith, l, atoms-length b) in
       let k′ : a < length (t′ .atoms) = omega (arith, l, count-atoms, atoms-length b′) in

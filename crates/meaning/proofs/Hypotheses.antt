@@ -11,7 +11,8 @@ use Rattle.laws.proofs.Entries.{in-map}
 use Rattle.theory.specs.Truth.{Truth, isTrue, isFalse, _≼_}
 use Rattle.theory.specs.Answers.{Answers, Atoms, wipe}
 use Rattle.meaning.specs.Reading.{Comparison, Element, Hypothesis, Literal, Relation, atomOf}
-use Rattle.meaning.specs.Truth.{comparisonTruth, decided, elementTruth, holds, hypothesisTruth, literalTruth, opposite}
+use Rattle.meaning.specs.Truth.{comparisonTruth, decided, elementTruth, holds, hypothesisTruth, literalTruth}
+use Rattle.meaning.specs.Truth.{opposite}
 use Rattle.meaning.specs.Refusal.{Use, elementUse, grows, positiveIn, shrinks, usesOf}
 use Rattle.theory.proofs.Truth.{clash, undefined-true, undefined-false, true-of, false-of, flip-≼}
 use Rattle.meaning.proofs.Relations.{grows-alone}

@@ -14,7 +14,8 @@ use borrow.Author.Tests.{le-ltb, ltb-false, ltb-true, ne-eqb}
 use Rattle.laws.specs.Lists.{seek}
 use Rattle.laws.proofs.Searches.{seek-none, seek-same}
 use Rattle.meaning.specs.Format.{contents, countOf, end, limits, sizes, start, tables}
-use Rattle.meaning.specs.Refusal.{Refusal, astray, atTable, firstOf, frameRefusals, refusal, refusal1, refusal2, refusal3, refusals, refuse, tooMany}
+use Rattle.meaning.specs.Refusal.{Refusal, astray, atTable, firstOf, frameRefusals, refusal, refusal1, refusal2}
+use Rattle.meaning.specs.Refusal.{refusal3, refusals, refuse, tooMany}
 use Rattle.meaning.proofs.Absent.{first-found, none-table}
 use Rattle.meaning.proofs.Bytes.{Same, count-same, offset-same, start-same}
 

@@ -16,7 +16,7 @@ use Rattle.laws.proofs.Entries.{any-none}
 use Rattle.theory.specs.Steps.{Fresh}
 use Rattle.theory.specs.Levels as Theory
 use Rattle.theory.proofs.Truth.{clash}
-use Rattle.meaning.specs.Format.{Tables, countOf, tables}
+use Rattle.meaning.specs.Format.{Tables, atomCount, tables}
 use Rattle.meaning.specs.Reading.{Kind, givenOf, levelsOf, reading}
 use Rattle.meaning.specs.Model.{answersOf}
 use Rattle.meaning.specs.Outcome.{Answered, Call, modelOf}
@@ -53,7 +53,7 @@ known-answered = record { returns = refl; leaves = refl }
 gift-true : Gift whole (givenBoth 2) 54 0
 unfolding everything
 gift-true = record {
-  atom = ltb-true 0 (countOf whole 1) refl;
+  atom = ltb-true 0 (atomCount whole) refl;
   place = refl;
   before = refl;
   after = leb-true 1 _ refl;
@@ -65,7 +65,7 @@ gift-true = record {
 gift-false : Gift whole (givenBoth 2) 57 1
 unfolding everything
 gift-false = record {
-  atom = ltb-true 1 (countOf whole 1) refl;
+  atom = ltb-true 1 (atomCount whole) refl;
   place = refl;
   before = refl;
   after = leb-true 2 _ refl;
@@ -106,7 +106,7 @@ forgotten = accepted (givenBoth 2) (undefined ∷ false ∷ true ∷ true ∷ []
 pub byte-taken-back : Keeps known forgotten → ⊥
 unfolding everything
 byte-taken-back K =
-    let e : _≡_ {A = ℕ} 0 1 = K .stays 0 (ltb-true 0 (countOf (givenBoth 2) 1) refl) (λ z. omega (arith, z)) in
+    let e : _≡_ {A = ℕ} 0 1 = K .stays 0 (ltb-true 0 (atomCount (givenBoth 2)) refl) (λ z. omega (arith, z)) in
     omega (arith, e)
 
 -- r given true instead, and the bytes as they were: the founded answer is taken back

@@ -20,7 +20,8 @@ use Rattle.theory.specs.Answers.{Answers, _⊑_}
 use Rattle.theory.proofs.Truth.{by-answer, clash, undefined-false, undefined-true, ≼-refl}
 use Rattle.meaning.specs.Reading.{Kind, Reading, isComplete, kindAt, levelAt, levelCount}
 use Rattle.meaning.specs.Model.{answersOf, decide, derived, falls, membersOf, next, refuted, round, unfounded}
-use Rattle.meaning.specs.Founded.{AllCertain, CertainEnded, CertainStep, Complete, Derived, Ended, Refuted, Step, Unsupported}
+use Rattle.meaning.specs.Founded.{AllCertain, CertainEnded, CertainStep, Complete, Derived, Ended, Refuted, Step}
+use Rattle.meaning.specs.Founded.{Unsupported}
 use Rattle.meaning.proofs.KindLaws.{certain≢closed, complete-of, not-complete, of-complete}
 use Rattle.meaning.proofs.Steps.{derived→, →derived, refuted→, →refuted}
 use Rattle.meaning.proofs.Unfounded.{greatest, is-unfounded}

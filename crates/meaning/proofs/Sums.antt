@@ -12,7 +12,8 @@ use Rattle.laws.proofs.Integers.{AtMost, lt-passes, lt-fails, passes-lt, sum-pa
 use Rattle.theory.specs.Truth.{Truth, isTrue, isFalse}
 use Rattle.theory.specs.Answers.{Answers}
 use Rattle.meaning.specs.Reading.{Element, Relation}
-use Rattle.meaning.specs.Truth.{above, between, elementTruth, least, leastShare, most, mostShare, opposite, related, total, weighed}
+use Rattle.meaning.specs.Truth.{above, between, elementTruth, least, leastShare, most, mostShare, opposite}
+use Rattle.meaning.specs.Truth.{related, total, weighed}
 use Rattle.meaning.specs.Refusal.{isAbove, isBelow}
 use Rattle.meaning.proofs.Relations.{by-opposites, by-above, by-below}
 use Rattle.meaning.proofs.Elements.{Definite, Possible, FromTrue, FromFalse, stays-true, stays-false}

@@ -24,9 +24,11 @@ use Rattle.meaning.specs.Reading.{Hypothesis, Kind, Reading, Rule, kindA
 use Rattle.meaning.specs.Refusal.{Use, uses, usesOf}
 use Rattle.meaning.specs.Truth.{hypothesisTruth}
 use Rattle.meaning.specs.Model.{answersOf}
-use Rattle.meaning.specs.Founded.{BodyTrue, CertainEnded, CertainStep, Complete, Derived, Ended, Fails, Founded, Levels, Run, Step, Unfounded, certain, next, none, start, uncertain}
+use Rattle.meaning.specs.Founded.{BodyTrue, CertainEnded, CertainStep, Complete, Derived, Ended, Fails, Founded}
+use Rattle.meaning.specs.Founded.{Levels, Run, Step, Unfounded, certain, next, none, start, uncertain}
 use Rattle.meaning.proofs.Hypotheses.{Reads, hypothesis-local, positive-use, uses-reads}
-use Rattle.meaning.proofs.KindLaws.{certain-in, certain≢closed, closed-in, complete-in, not-complete, open-not-certain, open-not-closed, open-not-complete}
+use Rattle.meaning.proofs.KindLaws.{certain-in, certain≢closed, closed-in, complete-in, not-complete}
+use Rattle.meaning.proofs.KindLaws.{open-not-certain, open-not-closed, open-not-complete}
 use Rattle.meaning.proofs.Sound.{Sound}
 use Rattle.meaning.proofs.Unfounded.{fails→false, false→fails}
 

@@ -18,10 +18,12 @@ use Rattle.theory.specs.Truth.{Truth, isUndefined}
 use Rattle.theory.specs.Answers.{Answers}
 use Rattle.meaning.specs.Reading.{Kind, Reading, isCertain, kindAt, levelAt, levelCount}
 use Rattle.meaning.specs.Model.{answersOf, close, closing, level, levelsBelow, model, next, round}
-use Rattle.meaning.specs.Founded.{AllCertain, CertainStep, Founded, Levels, NoneCertain, Run, Step, certain, closed, none, uncertain}
+use Rattle.meaning.specs.Founded.{AllCertain, CertainStep, Founded, Levels, NoneCertain, Run, Step, certain}
+use Rattle.meaning.specs.Founded.{closed, none, uncertain}
 use Rattle.meaning.specs.Founded as Founded
 use Rattle.meaning.proofs.KindLaws.{certain-of}
-use Rattle.meaning.proofs.Rounds.{Fit, round-length, rounds-rest, each-at, round-certain, round-certain-ended, round-ended, round-step}
+use Rattle.meaning.proofs.Rounds.{Fit, round-length, rounds-rest, each-at, round-certain, round-certain-ended}
+use Rattle.meaning.proofs.Rounds.{round-ended, round-step}
 
 -- of finitely many numbers one passes a test, or none does
 below : (m : ℕ) (f : ℕ → Bool) → ((a : ℕ) × So (f a)) ⊎ ((a : ℕ) → a < m → f a ≡ false)

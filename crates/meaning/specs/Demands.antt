@@ -9,7 +9,7 @@ use lib.ListN.{length, getD}
 use Rattle.laws.specs.Lists.{In}
 use Rattle.theory.specs.Truth.{Truth}
 use Rattle.theory.specs.Answers.{_⊑_}
-use Rattle.meaning.specs.Format.{countOf, start, tables}
+use Rattle.meaning.specs.Format.{atomCount, start, tables}
 use Rattle.meaning.specs.Reading.{Kind, Rule, codeOf, givenOf, kindAt, levelsOf, reading}
 use Rattle.meaning.specs.Refusal.{Refusal, packed, refusal}
 use Rattle.meaning.specs.Model.{answersOf}
@@ -26,7 +26,7 @@ FoundedIn b A = Founded (reading (tables b)) (levelsOf (tables b)) (givenOf (tab
 
 -- atom a is open, no rule concludes it, and its given byte, which stands at i, is 0 in b and a listed code in b′
 pub record Gift (b b′ : List ℕ) (i a : ℕ) : Type 0 where
-  pub atom : a < countOf b 1
+  pub atom : a < atomCount b
   pub place : i ≡ start b 1 + 3 * a + 2
   pub before : getD b i 0 ≡ 0
   pub after : getD b′ i 0 ≤ 2
@@ -56,7 +56,7 @@ pub record Demands (c : Call) : Type 0 where
       (c .number ≡ packed r) × (c .after ≡ c .room)
   pub accepts : AcceptedCall c → c .number ≡ 0
   -- 2. Answers fill one byte for each atom, and are the founded ones, of which there is one for each book.
-  pub answers : AcceptedCall c → (A : List Truth) × FoundedIn (c .book) A × (length A ≡ countOf (c .book) 1)
+  pub answers : AcceptedCall c → (A : List Truth) × FoundedIn (c .book) A × (length A ≡ atomCount (c .book))
       × Filled A (c .room) (c .after)
   pub unique : AcceptedCall c → (A A′ : List Truth) → FoundedIn (c .book) A → FoundedIn (c .book) A′ → A ≡ A′
 
@@ -72,5 +72,5 @@ pub record Keeps (c c′ : Call) : Type 0 where
   -- the first, and so do the bytes in its room.
   pub accepts-more : c′ .number ≡ 0
   pub keeps : (A A′ : List Truth) → FoundedIn (c .book) A → FoundedIn (c′ .book) A′ → answersOf A ⊑ answersOf A′
-  pub stays : (a : ℕ) → a < countOf (c .book) 1 → (getD (c .after) a 0 ≡ 0 → ⊥) →
+  pub stays : (a : ℕ) → a < atomCount (c .book) → (getD (c .after) a 0 ≡ 0 → ⊥) →
       getD (c′ .after) a 0 ≡ getD (c .after) a 0

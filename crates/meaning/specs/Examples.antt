@@ -18,7 +18,8 @@ pub mod Refused
 use Notation.{Example, minus}
 use Marked.{bounds, edges, empty, kinds, listing, loops, openAtoms, ranges}
 use Models.{bodies, extremes, largest, maxima, minima, rounds, smallest, sumWithNegative, sums, unfoundedSets}
-use Refused.{bytes, codes, counts, indices, neighbours, order, ownCounts, ownMaxima, ownMinima, ownNegatedSums, ownSums, places, positively, records, rules}
+use Refused.{bytes, codes, counts, indices, neighbours, order, ownCounts, ownMaxima, ownMinima, ownNegatedSums, ownSums}
+use Refused.{places, positively, records, rules}
 
 -- the entry returns the number, and the room is as said afterwards
 abbrev pub Right : Example → Type 0

@@ -38,6 +38,25 @@ offsetOf b k = u32At b (8 * k)
 unfoldable pub countOf : List ℕ → ℕ → ℕ
 countOf b k = u32At b (8 * k + 4)
 
+-- How many records each table has.
+abbrev pub predicateCount : List ℕ → ℕ
+predicateCount b = countOf b 0
+
+abbrev pub atomCount : List ℕ → ℕ
+atomCount b = countOf b 1
+
+abbrev pub ruleCount : List ℕ → ℕ
+ruleCount b = countOf b 2
+
+abbrev pub hypothesisCount : List ℕ → ℕ
+hypothesisCount b = countOf b 3
+
+abbrev pub comparisonCount : List ℕ → ℕ
+comparisonCount b = countOf b 4
+
+abbrev pub elementCount : List ℕ → ℕ
+elementCount b = countOf b 5
+
 abbrev pub contents : ℕ
 contents = 48
 

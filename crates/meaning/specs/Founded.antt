@@ -10,7 +10,8 @@ use lib.ListN.{length}
 use Rattle.laws.specs.Lists.{In}
 use Rattle.theory.specs.Truth.{Truth, isUndefined}
 use Rattle.theory.specs.Answers.{Answers, Atoms, _⊑_, wipe}
-use Rattle.meaning.specs.Reading.{Comparison, Hypothesis, Kind, Literal, Reading, Rule, kindAt, levelAt, levelCount}
+use Rattle.meaning.specs.Reading.{Comparison, Hypothesis, Kind, Literal, Reading, Rule, kindAt, levelAt}
+use Rattle.meaning.specs.Reading.{levelCount}
 use Rattle.meaning.specs.Truth.{comparisonTruth, hypothesisTruth}
 use Rattle.meaning.specs.Model.{answersOf}
 

@@ -8,7 +8,8 @@ use lib.IntN.{ℤ}
 use lib.ListN.{getD}
 use lib.Seq.{slice}
 use Rattle.theory.specs.Truth.{Truth}
-use Rattle.meaning.specs.Format.{Predicate, Atom, RuleRecord, HypothesisRecord, ComparisonRecord, ElementRecord, Tables, noComparison, noPredicate}
+use Rattle.meaning.specs.Format.{Predicate, Atom, RuleRecord, HypothesisRecord, ComparisonRecord, ElementRecord}
+use Rattle.meaning.specs.Format.{Tables, noComparison, noPredicate}
 
 pub data Kind : Type 0 where
   certain «open» complete closed : Kind

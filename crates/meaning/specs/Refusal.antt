@@ -6,8 +6,11 @@ use mathlib.Core.Option.{Option, none, some}
 use lib.Dec.{eqb, ltb, leb}
 use lib.ListN.{length, take}
 use Rattle.laws.specs.Lists.{any, gather, seek, twice}
-use Rattle.meaning.specs.Format.{Predicate, Atom, RuleRecord, HypothesisRecord, ComparisonRecord, ElementRecord, Tables, contents, countOf, end, limits, offsetOf, sizes, start, tables}
-use Rattle.meaning.specs.Reading.{Aggregate, Comparison, Element, Hypothesis, Kind, Literal, Reading, Relation, Rule, atomOf, elementsOf, isCertain, isOpen, kindAt, kindOf, levelAt, levelsOf, reading}
+use Rattle.meaning.specs.Format.{Predicate, Atom, RuleRecord, HypothesisRecord, ComparisonRecord, ElementRecord}
+use Rattle.meaning.specs.Format.{Tables, contents, countOf, end, limits, offsetOf, sizes, start, tables}
+use Rattle.meaning.specs.Reading.{Aggregate, Comparison, Element, Hypothesis, Kind, Literal, Reading, Relation}
+use Rattle.meaning.specs.Reading.{Rule, atomOf, elementsOf, isCertain, isOpen, kindAt, kindOf, levelAt, levelsOf}
+use Rattle.meaning.specs.Reading.{reading}
 
 pub record Refusal : Type 0 where
   pub number : ℕ

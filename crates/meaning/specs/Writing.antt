@@ -5,8 +5,10 @@ use mathlib.Core.List.{List, [], _∷_, _++_, map}
 use lib.IntN.{ℤ, pos, negsuc}
 use lib.ListN.{length}
 use Rattle.laws.specs.Lists.{gather}
-use Rattle.meaning.specs.Format.{Predicate, Atom, RuleRecord, HypothesisRecord, ComparisonRecord, ElementRecord, Tables, contents, sizes}
-use Rattle.meaning.specs.Reading.{Aggregate, Comparison, Element, Hypothesis, Kind, Literal, Relation, Rule, atomOf}
+use Rattle.meaning.specs.Format.{Predicate, Atom, RuleRecord, HypothesisRecord, ComparisonRecord, ElementRecord}
+use Rattle.meaning.specs.Format.{Tables, contents, sizes}
+use Rattle.meaning.specs.Reading.{Aggregate, Comparison, Element, Hypothesis, Kind, Literal, Relation, Rule}
+use Rattle.meaning.specs.Reading.{atomOf}
 
 -- Numbers are little-endian.
 abbrev pub u8 : ℕ → List ℕ

@@ -18,7 +18,7 @@ use Rattle.theory.specs.Truth.{Truth, isFalse, isTrue, isUndefined, _≼_}
 use Rattle.theory.specs.Answers.{Answers, Atoms, NoneTrue, _⊑_, wipe}
 use Rattle.theory.proofs.Truth.{by-answer, false-of, true-of, undefined-of, undefined-true, undefined-false}
 use Rattle.theory.proofs.Answers.{⊑-refl, wipe-in}
-use Rattle.meaning.specs.Format.{countOf, noRule, ruleAt, tables}
+use Rattle.meaning.specs.Format.{atomCount, noRule, ruleAt, ruleCount, tables}
 use Rattle.meaning.specs.Reading.{Hypothesis, Kind, Rule, isClosed, reading, ruleOf, truthOf}
 use Rattle.meaning.specs.Truth.{bodyTruth, hypothesisTruth}
 use Rattle.meaning.specs.Model.{membersOf, unfounded}
@@ -38,7 +38,7 @@ use Rattle.steps.proofs.DueLaws.{steps-three}
 use Rattle.steps.proofs.WorkLaws.{read-held, held-other, held-out, held-same}
 
 -- the greatest unfounded set, at the answers held in memory
-module _ (b : List ℕ) (n : ℕ) (A : List ℕ) (size : length A ≡ countOf b 1) where
+module _ (b : List ℕ) (n : ℕ) (A : List ℕ) (size : length A ≡ atomCount b) where
   abbrev found : Atoms
   found = membersOf (unfounded (rulesIn b) (levelsIn b) n (answersIn A))
 
@@ -76,7 +76,7 @@ module _ (b : List ℕ) (n : ℕ) (A : List ℕ) (a : ℕ) where
       both (both (ap isClosed k) (eq-eqb (levelRead b a) n l)) (of-not (isTrue (held A a)) (λ e. t (true-of _ e)))
 
   -- past the table no atom is one
-  candidate-out : countOf b 1 ≤ a → candidateIn b n A a ≡ false
+  candidate-out : atomCount b ≤ a → candidateIn b n A a ≡ false
   unfolding candidateIn
   candidate-out l =
       let past : length (rulesIn b .kinds) ≤ a = omega (arith, l, kinds-length (tables b), atoms-length b) in
@@ -84,16 +84,16 @@ module _ (b : List ℕ) (n : ℕ) (A : List ℕ) (a : ℕ) where
       rw o
 
 -- at the start all candidates are assumed
-pub assumed-start : (b : List ℕ) (n : ℕ) (A W : List ℕ) → length A ≡ countOf b 1 → length W ≡ 2048 →
-    ((a : ℕ) → a < countOf b 1 → held W a ≡ wipe (candidateIn b n A) (held A) a) →
-    ((a : ℕ) → countOf b 1 ≤ a → held W a ≡ Truth.undefined) → Assumed b n A W
+pub assumed-start : (b : List ℕ) (n : ℕ) (A W : List ℕ) → length A ≡ atomCount b → length W ≡ 2048 →
+    ((a : ℕ) → a < atomCount b → held W a ≡ wipe (candidateIn b n A) (held A) a) →
+    ((a : ℕ) → atomCount b ≤ a → held W a ≡ Truth.undefined) → Assumed b n A W
 assumed-start b n A W size long at rest = record {
   long = long;
   chosen = candidateIn b n A;
   counted = λ a.
-      by-cases (decLt a (countOf b 1)) (at a)
+      by-cases (decLt a (atomCount b)) (at a)
       (λ out.
-      let o : countOf b 1 ≤ a = omega (arith, out) in
+      let o : atomCount b ≤ a = omega (arith, out) in
       rest a o ∙ sym (rw (candidate-out b n A a o) (held-out A a (omega (arith, o, size)))));
   candidates = λ a c. c;
   every = λ U u a m. let (k, l) = u .closed a m in of-candidate b n A a k l (u .none-true a m);
@@ -108,17 +108,17 @@ counts-candidate Truth.undefined false k = rw (and-none (isClosed k))
 counts-candidate Truth.true here k = rw (and-none (isClosed k && here))
 counts-candidate Truth.false here k = by-test (isClosed k && here && true) (λ t. rw t) (λ f. rw f)
 
-pub counts-wiped : (b : List ℕ) (n : ℕ) (A D : List ℕ) → Due b n A D → (a : ℕ) → a < countOf b 1 →
+pub counts-wiped : (b : List ℕ) (n : ℕ) (A D : List ℕ) → Due b n A D → (a : ℕ) → a < atomCount b →
     cond (eqb (getD D a 0) 3) Truth.false (held A a) ≡ wipe (candidateIn b n A) (held A) a
 unfolding dueIn pendingIn candidateIn
 counts-wiped b n A D d a l = rw (d .steps a l) (counts-candidate (held A a) (eqb (levelRead b a) n) (kindRead b a))
 
 -- rule r of a book, among the rules as read
-rules-length : (b : List ℕ) → length (tables b .rules) ≡ countOf b 2
+rules-length : (b : List ℕ) → length (tables b .rules) ≡ ruleCount b
 unfolding tables
 rules-length b = body-length ruleAt b 2
 
-rule-in : (b : List ℕ) (r : ℕ) → r < countOf b 2 → In (ruleRead b r) (rulesIn b .rules)
+rule-in : (b : List ℕ) (r : ℕ) → r < ruleCount b → In (ruleRead b r) (rulesIn b .rules)
 unfolding reading
 rule-in b r l =
     in-map (ruleOf (tables b)) (tables b .rules) (ruleIn b r)
@@ -136,7 +136,7 @@ module _ (b : List ℕ) (n : ℕ) (A W : List ℕ) (w : Assumed b n A W) where
   none-true a m = candidate-of b n A a (w .candidates a m) .2
 
   -- a rule whose head is in an unfounded set has a false body
-  unfounded-false : (U : Atoms) → Unfounded (rulesIn b) (levelsIn b) n U (held A) → (r : ℕ) → r < countOf b 2 →
+  unfounded-false : (U : Atoms) → Unfounded (rulesIn b) (levelsIn b) n U (held A) → (r : ℕ) → r < ruleCount b →
       So (U (ruleIn b r .head)) → bodyTruth (held W) (ruleRead b r .body) ≡ Truth.false
   unfounded-false U u r l m =
       let (h, i, f) = u .fails (ruleRead b r) (rule-in b r l) (rw (head-is b r) m) in
@@ -168,7 +168,7 @@ module _ (b A W : List ℕ) (r : ℕ) where
       false-of _ (not-false _ (and-fails only-assumed _ o s))
 
   -- a strike leaves what is assumed so
-  module _ (n : ℕ) (w : Assumed b n A W) (l : r < countOf b 2) (m : ruleIn b r .head < length W)
+  module _ (n : ℕ) (w : Assumed b n A W) (l : r < ruleCount b) (m : ruleIn b r .head < length W)
       (s : strikesAt b A W r ≡ true) where
     not-unfounded : (U : Atoms) → Unfounded (rulesIn b) (levelsIn b) n U (held A) → So (U (ruleIn b r .head)) → ⊥
     not-unfounded U u i = strike-of s .2 (unfounded-false b n A W w U u r l i)
@@ -188,8 +188,8 @@ module _ (b A W : List ℕ) (r : ℕ) where
     }
 
 -- where each rule whose head is only assumed false has a false body, what is assumed is exact
-module _ (b : List ℕ) (n : ℕ) (A W : List ℕ) (size : length A ≡ countOf b 1) (w : Assumed b n A W)
-    (refuted : (r : ℕ) → r < countOf b 2 → held W (ruleIn b r .head) ≡ Truth.false →
+module _ (b : List ℕ) (n : ℕ) (A W : List ℕ) (size : length A ≡ atomCount b) (w : Assumed b n A W)
+    (refuted : (r : ℕ) → r < ruleCount b → held W (ruleIn b r .head) ≡ Truth.false →
     held A (ruleIn b r .head) ≡ Truth.undefined → bodyTruth (held W) (ruleRead b r .body) ≡ Truth.false) where
   -- those that are undefined without it
   abbrev only : Atoms
@@ -209,7 +209,7 @@ module _ (b : List ℕ) (n : ℕ) (A W : List ℕ) (size : length A ≡ countOf 
   only-none a m = none-true b n A W w a (left (w .chosen a) _ m)
 
   -- each rule with such a head has a false body
-  only-false : (r : ℕ) → r < countOf b 2 → So (only (ruleIn b r .head)) →
+  only-false : (r : ℕ) → r < ruleCount b → So (only (ruleIn b r .head)) →
       bodyTruth (held W) (ruleRead b r .body) ≡ Truth.false
   only-false r l m =
       let h = ruleIn b r .head in
@@ -258,13 +258,13 @@ module _ (b : List ℕ) (n : ℕ) (A W : List ℕ) (size : length A ≡ countOf 
           (λ t. absurd (none-true b n A W w a c t)) (λ v. v)
 
 -- so it is where no rule strikes
-pub quiet-exact : (b : List ℕ) (n : ℕ) (A W : List ℕ) → length A ≡ countOf b 1 → Assumed b n A W →
-    ((r : ℕ) → r < countOf b 2 → strikesAt b A W r ≡ false) → Exact b n A W
+pub quiet-exact : (b : List ℕ) (n : ℕ) (A W : List ℕ) → length A ≡ atomCount b → Assumed b n A W →
+    ((r : ℕ) → r < ruleCount b → strikesAt b A W r ≡ false) → Exact b n A W
 quiet-exact b n A W size w quiet = refuted-exact b n A W size w (λ r l f u. no-strike b A W r (quiet r l) f u)
 
 -- and where no atom is only assumed false
-pub settled-exact : (b : List ℕ) (n : ℕ) (A W : List ℕ) → Indexed b → length A ≡ countOf b 1 → Assumed b n A W →
-    ((a : ℕ) → a < countOf b 1 → onlyAssumed A W a ≡ false) → Exact b n A W
+pub settled-exact : (b : List ℕ) (n : ℕ) (A W : List ℕ) → Indexed b → length A ≡ atomCount b → Assumed b n A W →
+    ((a : ℕ) → a < atomCount b → onlyAssumed A W a ≡ false) → Exact b n A W
 settled-exact b n A W I size w none =
     refuted-exact b n A W size w
     (λ r l f u. test-clash (both (ap isFalse f) (ap isUndefined u)) (none (ruleIn b r .head) (I .head r l)))

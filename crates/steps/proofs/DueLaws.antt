@@ -10,7 +10,7 @@ use lib.ListN.{length, getD, length-replicate, length-set, replicate, set}
 use borrow.Author.Tests.{eq-eqb, ne-eqb}
 use Rattle.laws.proofs.Stores.{stored}
 use Rattle.theory.specs.Truth.{Truth, isUndefined}
-use Rattle.meaning.specs.Format.{countOf}
+use Rattle.meaning.specs.Format.{atomCount}
 use Rattle.meaning.specs.Reading.{Kind, codeOf, isClosed, isComplete, kindOf}
 use Rattle.book.specs.Records.{kindCode, levelRead}
 use Rattle.book.proofs.AtomLaws.{kind-read}
@@ -61,7 +61,7 @@ pub ruleset kinds = (steps-certain, steps-open, steps-complete, steps-closed)
 
 -- at one atom
 module _ (b : List ℕ) (n : ℕ) (L : List ℕ) (a : ℕ) (v : Bool) (p : v ≡ pendingIn b n L a) where
-  pub due-pending : (s k : ℕ) → v ≡ true → s ≡ stepsOf (kindOf k) → k ≡ kindCode b a → a < countOf b 1 →
+  pub due-pending : (s k : ℕ) → v ≡ true → s ≡ stepsOf (kindOf k) → k ≡ kindCode b a → a < atomCount b →
       s ≡ dueIn b n L a
   unfolding dueIn
   due-pending s k t e q l = e ∙ rw (← p, t, q, kind-read b a l)
@@ -82,7 +82,7 @@ module _ (b : List ℕ) (n : ℕ) (L : List ℕ) where
   due-start = record { long = length-replicate {A = ℕ} 2048 0; steps = λ a l. absurd (omega (arith, l)) }
 
   module _ (D : List ℕ) (a : ℕ) (d : DueTo b n L D a) where
-    pub due-more : (v : ℕ) → v ≡ dueIn b n L a → Ready b → length L ≡ countOf b 1 → a < length L →
+    pub due-more : (v : ℕ) → v ≡ dueIn b n L a → Ready b → length L ≡ atomCount b → a < length L →
         DueTo b n L (set D a v) (a + 1)
     due-more v e R size l = record {
       long = length-set D a v ∙ d .long;
@@ -91,13 +91,13 @@ module _ (b : List ℕ) (n : ℕ) (L : List ℕ) where
           (λ o. d .steps j (omega (arith, m, o)));
     }
 
-    pub due-all : length L ≡ countOf b 1 → length L ≤ a → Due b n L D
+    pub due-all : length L ≡ atomCount b → length L ≤ a → Due b n L D
     due-all size l = record { long = d .long; steps = λ j m. d .steps j (omega (arith, m, l, size)) }
 
-  pub due-small : (a : ℕ) → Ready b → length L ≡ countOf b 1 → a < length L → a < 2048
+  pub due-small : (a : ℕ) → Ready b → length L ≡ atomCount b → a < length L → a < 2048
   due-small a R size l = omega (arith, few b R, size, l)
 
-  pub due-there : (a : ℕ) → length L ≡ countOf b 1 → a < length L → a < countOf b 1
+  pub due-there : (a : ℕ) → length L ≡ atomCount b → a < length L → a < atomCount b
   due-there a size l = omega (arith, size, l)
 
 pub ruleset listing-dues = (due-start, due-more, due-all, due-small, due-there)

@@ -18,7 +18,8 @@ use Rattle.laws.proofs.Numbers.{any-number, any-to, number-any}
 use Rattle.laws.proofs.Ranges.{slice-at}
 use Rattle.theory.specs.Truth.{Truth, isFalse}
 use Rattle.theory.specs.Answers.{Answers}
-use Rattle.meaning.specs.Format.{HypothesisRecord, countOf, hypothesisAt, noHypothesis, tables}
+use Rattle.meaning.specs.Format.{HypothesisRecord, atomCount, comparisonCount, hypothesisAt, hypothesisCount}
+use Rattle.meaning.specs.Format.{noHypothesis, ruleCount, tables}
 use Rattle.meaning.specs.Reading.{codeOf, literalOf}
 use Rattle.meaning.specs.Truth.{bodyTruth, literalTruth, meet}
 use Rattle.meaning.proofs.Bytes.{body-length}
@@ -35,10 +36,10 @@ false-code Truth.false = refl
 
 -- a hypothesis, by its sort
 module _ (b W : List ℕ) (h s i : ℕ) (es : s ≡ hypothesisIn b h .sort) (ei : i ≡ hypothesisIn b h .index) where
-  pub atom-within : Ready b → h < countOf b 3 → countOf b 1 ≤ length W → s < 2 → i < length W
+  pub atom-within : Ready b → h < hypothesisCount b → atomCount b ≤ length W → s < 2 → i < length W
   atom-within R l size n = atom-of b W h s i (R .indexed) l es ei size n
 
-  pub comparison-within : Ready b → h < countOf b 3 → 2 ≤ s → i < countOf b 4
+  pub comparison-within : Ready b → h < hypothesisCount b → 2 ≤ s → i < comparisonCount b
   comparison-within R l n = rw (le-ltb s 2 n) at (index-within b W h s i (R .indexed) l es ei)
 
   pub literal-fails : (x : ℕ) → s < 2 → x ≡ codeOf (literalTruth (held W) (literalOf s i)) → eqb x 2 ≡ failsAt b W h
@@ -122,7 +123,7 @@ pub ruleset ranging = (clear-start, clear-more, range-found, range-clear)
 abbrev failsFrom : List ℕ → List ℕ → ℕ → ℕ → Bool
 failsFrom b W first i = failsAt b W (first + i)
 
-module _ (b W : List ℕ) (r : ℕ) (R : Ready b) (l : r < countOf b 2) where
+module _ (b W : List ℕ) (r : ℕ) (R : Ready b) (l : r < ruleCount b) where
   abbrev first : ℕ
   first = ruleIn b r .first
 
@@ -158,12 +159,12 @@ module _ (b W : List ℕ) (r : ℕ) (R : Ready b) (l : r < countOf b 2) where
       test-clash u (c .at (first + i) (omega arith) (omega (arith, l))))))
 
 -- the loop over a rule's hypotheses: one after the other, or a block at once
-module _ (b W : List ℕ) (f m r : ℕ) (R : Ready b) (l : r < countOf b 2) (ef : f ≡ ruleIn b r .first)
+module _ (b W : List ℕ) (f m r : ℕ) (R : Ready b) (l : r < ruleCount b) (ef : f ≡ ruleIn b r .first)
     (em : m ≡ ruleIn b r .many) where
-  pub supports-within : (h : ℕ) → h < f + m → h < countOf b 3
+  pub supports-within : (h : ℕ) → h < f + m → h < hypothesisCount b
   supports-within h o = omega (arith, R .indexed .rule r l, ef, em, o)
 
-  pub supports-block : (h k : ℕ) → Begins h (f + m) k → k < 64 → 64 * k + 64 ≤ countOf b 3
+  pub supports-block : (h k : ℕ) → Begins h (f + m) k → k < 64 → 64 * k + 64 ≤ hypothesisCount b
   supports-block h k t o =
       let (e, u) = t .block o in omega (arith, e, u, R .indexed .rule r l, ef, em)
 

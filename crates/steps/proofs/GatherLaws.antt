@@ -8,7 +8,7 @@ use lib.ListN.{length, getD, length-replicate, length-set, getD-replicate, repli
 use borrow.Author.Tests.{eq-eqb, ne-eqb}
 use Rattle.laws.proofs.Stores.{stored}
 use Rattle.theory.specs.Truth.{Truth}
-use Rattle.meaning.specs.Format.{countOf}
+use Rattle.meaning.specs.Format.{atomCount, ruleCount}
 use Rattle.meaning.specs.Reading.{codeOf, truthOf}
 use Rattle.book.specs.Records.{ruleIn}
 use Rattle.judge.specs.Held.{Asked}
@@ -54,14 +54,14 @@ module _ (b L D : List ℕ) (F : Ready b) where
     other a m = rw (add-one, ne-eqb (ruleIn b k .head) a (λ z. m (e ∙ z)))
 
     -- or this one
-    own : (x : ℕ) → h < countOf b 1 → x ≡ codeOf (bodyIn b L k) → (getD D h 0 ≡ 0 → ⊥) →
+    own : (x : ℕ) → h < atomCount b → x ≡ codeOf (bodyIn b L k) → (getD D h 0 ≡ 0 → ⊥) →
         join (truthOf (getD best h 0)) (truthOf x) ≡ headTruth b L h (k + 1)
     unfolding headTruth
     own x l p t =
         ap₂ {C = Truth} join (G .truths h l t) (ap truthOf p ∙ code-back (bodyIn b L k)) ∙
         rw (add-one, eq-eqb (ruleIn b k .head) h (sym e))
 
-    pub gathered-more : (v x : ℕ) → h < countOf b 1 → x ≡ codeOf (bodyIn b L k) →
+    pub gathered-more : (v x : ℕ) → h < atomCount b → x ≡ codeOf (bodyIn b L k) →
         truthOf v ≡ join (truthOf (getD best h 0)) (truthOf x) → (getD D h 0 ≡ 0 → ⊥) →
         Gathered b L D (set best h v) (k + 1)
     gathered-more v x l p q t = record {
@@ -82,19 +82,19 @@ pub asked-first : (b L : List ℕ) → Ready b → Asked b L (replicate 512 3)
 asked-first b L F = asked-none b L (F .framed)
 
 -- a head is an atom, and atoms fit the array
-pub head-there : (b : List ℕ) (k m h : ℕ) → Ready b → m ≡ countOf b 2 → k < m → h ≡ ruleIn b k .head → h < countOf b 1
+pub head-there : (b : List ℕ) (k m h : ℕ) → Ready b → m ≡ ruleCount b → k < m → h ≡ ruleIn b k .head → h < atomCount b
 head-there b k m h F e l q = rw q (F .indexed .head k (omega (arith, e, l)))
 
-pub head-fits : (b : List ℕ) (k m h : ℕ) (best : List ℕ) → Ready b → length best ≡ 2048 → m ≡ countOf b 2 → k < m →
+pub head-fits : (b : List ℕ) (k m h : ℕ) (best : List ℕ) → Ready b → length best ≡ 2048 → m ≡ ruleCount b → k < m →
     h ≡ ruleIn b k .head → h < length best
 head-fits b k m h best F z e l q = omega (arith, head-there b k m h F e l q, few b F, z)
 
-pub head-small : (b : List ℕ) (k m h : ℕ) → Ready b → m ≡ countOf b 2 → k < m → h ≡ ruleIn b k .head → h < 2048
+pub head-small : (b : List ℕ) (k m h : ℕ) → Ready b → m ≡ ruleCount b → k < m → h ≡ ruleIn b k .head → h < 2048
 head-small b k m h F e l q = omega (arith, head-there b k m h F e l q, few b F)
 
-pub gathered-all : (b L D best : List ℕ) (k m : ℕ) → m ≡ countOf b 2 → k ≤ m → m ≤ k →
-    Gathered b L D best k → Gathered b L D best (countOf b 2)
-gathered-all b L D best k m e l o G = let q : k ≡ countOf b 2 = omega (arith, e, l, o) in rw (← q) G
+pub gathered-all : (b L D best : List ℕ) (k m : ℕ) → m ≡ ruleCount b → k ≤ m → m ≤ k →
+    Gathered b L D best k → Gathered b L D best (ruleCount b)
+gathered-all b L D best k m e l o G = let q : k ≡ ruleCount b = omega (arith, e, l, o) in rw (← q) G
 
 pub ruleset gathering = (
   asked-first,

@@ -11,7 +11,7 @@ use Rattle.laws.proofs.Numbers.{all-to, any-to}
 use Rattle.laws.proofs.Ranges.{all-map, any-map}
 use Rattle.theory.specs.Truth.{Truth, isFalse, isTrue}
 use Rattle.theory.specs.Answers.{Answers}
-use Rattle.meaning.specs.Format.{countOf, noRule, ruleAt, tables}
+use Rattle.meaning.specs.Format.{noRule, ruleAt, ruleCount, tables}
 use Rattle.meaning.specs.Reading.{reading, ruleOf}
 use Rattle.meaning.specs.Truth.{bodyTruth}
 use Rattle.meaning.specs.Model.{answersOf, derived, refuted}
@@ -65,14 +65,14 @@ module _ (b L : List ℕ) (a : ℕ) where
   body-is : (j : ℕ) → bodyTruth (answersOf (answersIn L)) (ruleRead b j .body) ≡ bodyIn b L j
   body-is j = ap (λ (A : Answers). bodyTruth A (ruleRead b j .body)) (read-held L)
 
-  rules-many : length (tables b .rules) ≡ countOf b 2
+  rules-many : length (tables b .rules) ≡ ruleCount b
   unfolding tables
   rules-many = body-length ruleAt b 2
 
-  pub head-derived : isTrue (headTruth b L a (countOf b 2)) ≡ derived (rulesIn b) (answersOf (answersIn L)) a
+  pub head-derived : isTrue (headTruth b L a (ruleCount b)) ≡ derived (rulesIn b) (answersOf (answersIn L)) a
   unfolding derived reading supports ruleOf
   head-derived =
-      head-true (countOf b 2) ∙
+      head-true (ruleCount b) ∙
       sym (any-map (λ r. eqb (r .head) a && isTrue (bodyTruth (answersOf (answersIn L)) (r .body)))
       (ruleOf (tables b)) (tables b .rules) ∙
       any-to noRule (λ x. eqb (x .head) a &&
@@ -80,10 +80,10 @@ module _ (b L : List ℕ) (a : ℕ) where
       (λ k l. ap (λ (x : Truth). eqb (ruleIn b k .head) a && isTrue x) (body-is k)) ∙
       ap (anyTo supports) rules-many)
 
-  pub head-refuted : isFalse (headTruth b L a (countOf b 2)) ≡ refuted (rulesIn b) (answersOf (answersIn L)) a
+  pub head-refuted : isFalse (headTruth b L a (ruleCount b)) ≡ refuted (rulesIn b) (answersOf (answersIn L)) a
   unfolding refuted reading spares ruleOf
   head-refuted =
-      head-false (countOf b 2) ∙
+      head-false (ruleCount b) ∙
       sym (all-map (λ r. not (eqb (r .head) a) || isFalse (bodyTruth (answersOf (answersIn L)) (r .body)))
       (ruleOf (tables b)) (tables b .rules) ∙
       all-to noRule (λ x. not (eqb (x .head) a) || isFalse (bodyTruth (answersOf (answersIn L))

@@ -16,7 +16,7 @@ use Rattle.laws.proofs.Tests.{fails-of, test-clash}
 use Rattle.theory.specs.Truth.{Truth, isFalse}
 use Rattle.theory.specs.Answers.{_⊑_}
 use Rattle.theory.proofs.Truth.{false-of, flip-≼}
-use Rattle.meaning.specs.Format.{countOf}
+use Rattle.meaning.specs.Format.{comparisonCount}
 use Rattle.meaning.specs.Reading.{Hypothesis, codeOf}
 use Rattle.meaning.specs.Truth.{comparisonTruth, hypothesisTruth}
 use Rattle.meaning.proofs.Hypotheses.{hypothesis-local}
@@ -40,7 +40,7 @@ known-none b W left R l = record {
   clear = λ k h e _ _. absurd (never (512 + k) e);
 }
   where
-    small : (c : ℕ) → c < countOf b 4 → c < 576
+    small : (c : ℕ) → c < comparisonCount b → c < 576
     small c m = omega (arith, m, R .framed .counts 4 (omega arith))
 
     entry : (i : ℕ) → i < 576 → getD unseen i 0 ≡ 65534
@@ -91,7 +91,7 @@ pub left-short : (b W K : List ℕ) (left : ℕ) → Known b W K left → left <
 left-short b W K left k = omega (arith, k .few)
 
 -- a comparison: what is known of it, and what is known once it is judged
-module _ (b W K : List ℕ) (left c : ℕ) (k : Known b W K left) (l : c < countOf b 4) where
+module _ (b W K : List ℕ) (left c : ℕ) (k : Known b W K left) (l : c < comparisonCount b) where
   pub comparison-room : Ready b → c < length K
   comparison-room R = omega (arith, l, k .long, R .framed .counts 4 (omega arith))
 
@@ -168,7 +168,7 @@ module _ (b W K : List ℕ) (left i : ℕ) (k : Known b W K left) (R : Ready b) 
         (λ _. k .clear j h);
   }
     where
-      apart : {P : Type 0} (c : ℕ) → 512 + i ≡ c → c < countOf b 4 → P
+      apart : {P : Type 0} (c : ℕ) → 512 + i ≡ c → c < comparisonCount b → P
       apart c z m = absurd (omega (arith, z, m, R .framed .counts 4 (omega arith)))
 
   pub block-found : (s : Bool) → s ≡ failsIn b W (64 * i) (64 * i + 64) → s ≡ true →

@@ -9,7 +9,7 @@ use lib.ListN.{getD}
 use Rattle.laws.proofs.Tests.{by-test, left}
 use Rattle.theory.specs.Truth.{Truth, isFalse, isUndefined}
 use Rattle.theory.proofs.Truth.{undefined-of}
-use Rattle.meaning.specs.Format.{countOf}
+use Rattle.meaning.specs.Format.{atomCount}
 use Rattle.meaning.specs.Model.{decide, falls, membersOf, next, unfounded}
 use Rattle.book.specs.Records.{kindRead, levelRead}
 use Rattle.judge.specs.Held.{held}
@@ -27,15 +27,15 @@ module _ (b : List ℕ) (n : ℕ) (L D best W : List ℕ) (d : Due b n L D) (J :
   false-wiped false x e = rw e
 
   -- the steps due to an atom that is pending, and to another
-  due-to : (a : ℕ) → a < countOf b 1 → So (pendingIn b n L a) → getD D a 0 ≡ stepsOf (kindRead b a)
+  due-to : (a : ℕ) → a < atomCount b → So (pendingIn b n L a) → getD D a 0 ≡ stepsOf (kindRead b a)
   unfolding dueIn
   due-to a l t = d .steps a l ∙ rw t
 
-  due-not : (a : ℕ) → a < countOf b 1 → pendingIn b n L a ≡ false → getD D a 0 ≡ 0
+  due-not : (a : ℕ) → a < atomCount b → pendingIn b n L a ≡ false → getD D a 0 ≡ 0
   unfolding dueIn
   due-not a l f = d .steps a l ∙ rw f
 
-  pub next-is : (a : ℕ) → a < countOf b 1 →
+  pub next-is : (a : ℕ) → a < atomCount b →
       nextOf L D best W a ≡ next (rulesIn b) (levelsIn b) n (answersIn L) U a (held L a)
   unfolding nextTruth next decide falls
   next-is a l =

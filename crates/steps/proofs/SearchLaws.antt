@@ -10,7 +10,7 @@ use borrow.Author.Tests.{eqb-true, ltb-false, ltb-true, not-false}
 use Rattle.laws.proofs.Searches.{NoneTo, none-more, none-start}
 use Rattle.laws.proofs.Tests.{both, by-test}
 use Rattle.theory.specs.Truth.{isFalse, isUndefined}
-use Rattle.meaning.specs.Format.{countOf}
+use Rattle.meaning.specs.Format.{atomCount, ruleCount}
 use Rattle.book.specs.Records.{ruleIn}
 use Rattle.steps.specs.Work.{Exact, Ready}
 use Rattle.steps.specs.Strike.{Assumed, Come, Known, Searched, Struck, strikesAt, waiting}
@@ -21,25 +21,25 @@ use Rattle.steps.proofs.StrikeLaws.{waiting-most, waiting-none, waiting
 
 -- the start
 pub searched-none : (b : List ℕ) (n : ℕ) (A W : List ℕ) (left : ℕ) → Ready b → Assumed b n A W →
-    left ≡ waiting A W (countOf b 1) → Searched b n A W (replicate 576 65534) left
+    left ≡ waiting A W (atomCount b) → Searched b n A W (replicate 576 65534) left
 searched-none b n A W left R w e = record {
   assumed = w;
   waits = e;
-  known = known-none b W left R (omega (arith, e, waiting-most A W (countOf b 1), few b R));
+  known = known-none b W left R (omega (arith, e, waiting-most A W (atomCount b), few b R));
 }
 
 -- what a search asks of the lists that it is lent
 module _ (b : List ℕ) (n : ℕ) (A W K : List ℕ) (left : ℕ) (S : Searched b n A W K left) where
-  pub searched-room : Ready b → countOf b 1 ≤ length W
+  pub searched-room : Ready b → atomCount b ≤ length W
   searched-room R = omega (arith, few b R, S .assumed .long)
 
   pub searched-known : Known b W K left
   searched-known = S .known
 
   -- the end, where nothing is left
-  pub searched-ends : Ready b → length A ≡ countOf b 1 → left ≡ 0 → Exact b n A W
+  pub searched-ends : Ready b → length A ≡ atomCount b → left ≡ 0 → Exact b n A W
   searched-ends R size e =
-      settled-exact b n A W (R .indexed) size (S .assumed) (waiting-none A W (countOf b 1) (sym (S .waits) ∙ e))
+      settled-exact b n A W (R .indexed) size (S .assumed) (waiting-none A W (atomCount b) (sym (S .waits) ∙ e))
 
   -- a look at rule r
   module _ (N : List ℕ) (r : ℕ) (s : Bool) (k : Known b W N left) (p : s ≡ strikesAt b A W r) where
@@ -50,18 +50,18 @@ module _ (b : List ℕ) (n : ℕ) (A W K : List ℕ) (left : ℕ) (S : Searched 
       quiet = λ _. (sym p ∙ f, refl);
     }
 
-    module _ (t : s ≡ true) (R : Ready b) (l : r < countOf b 2) where
-      head-there : ruleIn b r .head < countOf b 1
+    module _ (t : s ≡ true) (R : Ready b) (l : r < ruleCount b) where
+      head-there : ruleIn b r .head < atomCount b
       head-there = R .indexed .head r l
 
       head-room : ruleIn b r .head < length W
       head-room = omega (arith, head-there, few b R, S .assumed .long)
 
-      one-fewer : waiting A (set W (ruleIn b r .head) 0) (countOf b 1) + 1 ≡ left
+      one-fewer : waiting A (set W (ruleIn b r .head) 0) (atomCount b) + 1 ≡ left
       one-fewer =
           let o = strike-of b A W r (sym p ∙ t) in
           waiting-struck A W (ruleIn b r .head) head-room (both (ap isFalse (o .0)) (ap isUndefined (o .1)))
-          (countOf b 1) head-there ∙ sym (S .waits)
+          (atomCount b) head-there ∙ sym (S .waits)
 
       pub struck-some : 1 ≤ left
       struck-some = omega (arith, one-fewer)
@@ -112,8 +112,8 @@ module _ (b A B : List ℕ) (start : ℕ) where
         kept e = omega (arith, e, s .fewer, q .fewer)
 
     -- a whole pass, of m rules
-    module _ (n m : ℕ) (K : List ℕ) (S : Searched b n A W K left) (size : length A ≡ countOf b 1)
-        (em : m ≡ countOf b 2) (l : m ≤ k) where
+    module _ (n m : ℕ) (K : List ℕ) (S : Searched b n A W K left) (size : length A ≡ atomCount b)
+        (em : m ≡ ruleCount b) (l : m ≤ k) where
       passed-exact : left ≡ start → Exact b n A W
       unfolding NoneTo
       passed-exact e =
@@ -133,7 +133,7 @@ passed-lower left start t = ltb-true left start t
 
 -- a try
 pub tried-come : (b : List ℕ) (n : ℕ) (A W K : List ℕ) (start front left : ℕ) → Searched b n A W K left →
-    left ≤ start → front < 2049 → Ready b → length A ≡ countOf b 1 → Come b n A W K start front left (not (eqb left 0))
+    left ≤ start → front < 2049 → Ready b → length A ≡ atomCount b → Come b n A W K start front left (not (eqb left 0))
 tried-come b n A W K start front left S l p R size = record {
   searched = S;
   fewer = l;
@@ -141,10 +141,10 @@ tried-come b n A W K start front left S l p R size = record {
   ends = λ f. searched-ends b n A W K left S R size (eqb-true left 0 (not-false (eqb left 0) f));
 }
 
-pub rule-short : (b : List ℕ) (m r : ℕ) → Ready b → m ≡ countOf b 2 → r < m → r < 2049
+pub rule-short : (b : List ℕ) (m r : ℕ) → Ready b → m ≡ ruleCount b → r < m → r < 2049
 rule-short b m r R e l = omega (arith, R .framed .counts 2 (omega arith), e, l)
 
-pub rule-there : (b : List ℕ) (m r : ℕ) → m ≡ countOf b 2 → r < m → r < countOf b 2
+pub rule-there : (b : List ℕ) (m r : ℕ) → m ≡ ruleCount b → r < m → r < ruleCount b
 rule-there b m r e l = omega (arith, e, l)
 
 -- a look that strikes nothing is one of as many as there are rules
@@ -212,7 +212,7 @@ module _ (b : List ℕ) (n : ℕ) (A W K : List ℕ) (start front left : ℕ) (m
       by-test more (λ t. rw (t, e) (omega (arith, f t))) (λ z. rw (z, e) (omega (arith, C .fewer)))
 
 pub come-start : (b : List ℕ) (n : ℕ) (A W : List ℕ) (left : ℕ) → Ready b → Assumed b n A W →
-    left ≡ waiting A W (countOf b 1) → Come b n A W (replicate 576 65534) left 2048 left true
+    left ≡ waiting A W (atomCount b) → Come b n A W (replicate 576 65534) left 2048 left true
 come-start b n A W left R w e = record {
   searched = searched-none b n A W left R w e;
   fewer = omega arith;

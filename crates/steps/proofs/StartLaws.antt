@@ -14,7 +14,7 @@ use borrow.Author.Tests.{eqb-true, ne-eqb}
 use Rattle.laws.proofs.Tests.{by-test, left}
 use Rattle.theory.specs.Truth.{Truth, isFalse, isUndefined}
 use Rattle.theory.proofs.Truth.{undefined-of}
-use Rattle.meaning.specs.Format.{countOf}
+use Rattle.meaning.specs.Format.{atomCount}
 use Rattle.meaning.specs.Reading.{codeOf, truthOf}
 use Rattle.book.specs.Records.{levelRead}
 use Rattle.judge.specs.Held.{held}
@@ -51,11 +51,11 @@ module _ (d x : ℕ) where
 pub ruleset counts = (counted-false, counted-kept, counted-one, counted-sets)
 
 -- all three steps are due to undefined atoms alone
-pub due-undefined : (b : List ℕ) (n : ℕ) (A D : List ℕ) (a x d : ℕ) → Due b n A D → length A ≡ countOf b 1 →
+pub due-undefined : (b : List ℕ) (n : ℕ) (A D : List ℕ) (a x d : ℕ) → Due b n A D → length A ≡ atomCount b →
     a < length A → x ≡ codeOf (held A a) → d ≡ getD D a 0 → d ≡ 3 → x ≡ 0
 unfolding dueIn pendingIn
 due-undefined b n A D a x d w size l ex ed e =
-    let m : a < countOf b 1 = omega (arith, l, size) in
+    let m : a < atomCount b = omega (arith, l, size) in
     by-test (isUndefined (held A a) && eqb (levelRead b a) n)
     (λ t. ex ∙ rw (undefined-of (held A a) (left (isUndefined (held A a)) _ t)))
     (λ f. let z : getD D a 0 ≡ 0 = w .steps a m ∙ rw f in absurd (omega (arith, z, e, ed)))
@@ -109,16 +109,16 @@ module _ (A D W : List ℕ) (left a : ℕ) (w : CountedTo A D W left a) where
         );
       })
 
-  pub counted-assumed : (b : List ℕ) (n : ℕ) → a ≤ length A → length A ≤ a → length A ≡ countOf b 1 →
+  pub counted-assumed : (b : List ℕ) (n : ℕ) → a ≤ length A → length A ≤ a → length A ≡ atomCount b →
       Due b n A D → Assumed b n A W
   counted-assumed b n m l size d =
       assumed-start b n A W size (w .long)
       (λ i o. w .at i (omega (arith, o, l, size)) ∙ counts-wiped b n A D d i o)
       (λ i o. w .rest i (omega (arith, o, m, size)))
 
-  pub counted-waits : (b : List ℕ) (x : ℕ) → x ≡ left → a ≤ length A → length A ≤ a → length A ≡ countOf b 1 →
-      x ≡ waiting A W (countOf b 1)
-  counted-waits b x e m l size = let q : a ≡ countOf b 1 = omega (arith, m, l, size) in e ∙ w .waits ∙ rw q
+  pub counted-waits : (b : List ℕ) (x : ℕ) → x ≡ left → a ≤ length A → length A ≤ a → length A ≡ atomCount b →
+      x ≡ waiting A W (atomCount b)
+  counted-waits b x e m l size = let q : a ≡ atomCount b = omega (arith, m, l, size) in e ∙ w .waits ∙ rw q
 
   pub counted-room : a < 2048 → a < length W
   counted-room l = omega (arith, l, w .long)
@@ -126,10 +126,10 @@ module _ (A D W : List ℕ) (left a : ℕ) (w : CountedTo A D W left a) where
   pub counted-fits : (t : Bool) (u : ℕ) → u ≡ cond t 1 0 → a < 2048 → left + u < 2 ^ 16
   counted-fits t u e l = omega (arith, w .within, one-most t, e, l)
 
-pub counted-small : (b A : List ℕ) (a : ℕ) → Ready b → length A ≡ countOf b 1 → a < length A → a < 2048
+pub counted-small : (b A : List ℕ) (a : ℕ) → Ready b → length A ≡ atomCount b → a < length A → a < 2048
 counted-small b A a R size l = omega (arith, few b R, size, l)
 
-pub counted-due : (b : List ℕ) (n : ℕ) (A D : List ℕ) (a : ℕ) → Ready b → Due b n A D → length A ≡ countOf b 1 →
+pub counted-due : (b : List ℕ) (n : ℕ) (A D : List ℕ) (a : ℕ) → Ready b → Due b n A D → length A ≡ atomCount b →
     a < length A → a < length D
 counted-due b n A D a R d size l = omega (arith, few b R, size, l, d .long)
 

@@ -10,7 +10,7 @@ use lib.Dec.{eqb}
 use lib.ListN.{length, set}
 use borrow.Author.Tests.{eq-eqb, ne-eqb}
 use Rattle.theory.specs.Truth.{Truth, isFalse, isUndefined}
-use Rattle.meaning.specs.Format.{countOf}
+use Rattle.meaning.specs.Format.{atomCount, ruleCount}
 use Rattle.meaning.specs.Reading.{codeOf, truthOf}
 use Rattle.meaning.specs.Truth.{bodyTruth}
 use Rattle.book.specs.Records.{ruleIn, ruleRead}
@@ -31,10 +31,10 @@ undefined-code Truth.false x e = rw e
 
 -- does a rule strike
 module _ (b A W : List ℕ) (r h : ℕ) (e : h ≡ ruleIn b r .head) where
-  pub head-within : (X : List ℕ) → Ready b → countOf b 1 ≤ length X → r < countOf b 2 → h < length X
+  pub head-within : (X : List ℕ) → Ready b → atomCount b ≤ length X → r < ruleCount b → h < length X
   head-within X R size l = omega (arith, R .indexed .head r l, e, size)
 
-  pub head-answered : Ready b → length A ≡ countOf b 1 → r < countOf b 2 → h < length A
+  pub head-answered : Ready b → length A ≡ atomCount b → r < ruleCount b → h < length A
   head-answered R size l = omega (arith, R .indexed .head r l, e, size)
 
   module _ (x : ℕ) (p : x ≡ codeOf (held W h)) where

@@ -12,7 +12,7 @@ use Rattle.laws.proofs.Stores.{stored}
 use Rattle.laws.proofs.Entries.{map-at}
 use Rattle.laws.proofs.Places.{getD-out}
 use Rattle.theory.specs.Truth.{Truth}
-use Rattle.meaning.specs.Format.{countOf}
+use Rattle.meaning.specs.Format.{atomCount}
 use Rattle.meaning.specs.Reading.{codeOf, truthOf}
 use Rattle.meaning.specs.Model.{answersOf}
 use Rattle.judge.specs.Held.{held}
@@ -91,16 +91,16 @@ module _ (f : ℕ → Truth) where
       (λ a m. let k : a < n = omega (arith, m, e) in ap truthOf (getD-take n now a 0 k) ∙ W .answers a k ∙ h a k)
 
 -- the array of 2048 has room for all atoms
-pub few : (b : List ℕ) → Ready b → countOf b 1 ≤ 2048
+pub few : (b : List ℕ) → Ready b → atomCount b ≤ 2048
 few b F = F .framed .counts 1 (omega arith)
 
 -- the first n bytes of an array of 2048, n the number of atoms
 module _ (b : List ℕ) (n : ℕ) (R : Ready b) where
-  pub prefix-room : (W : List ℕ) → n ≡ countOf b 1 → length W ≡ 2048 → n ≤ length W
+  pub prefix-room : (W : List ℕ) → n ≡ atomCount b → length W ≡ 2048 → n ≤ length W
   prefix-room W e room = omega (arith, few b R, e, room)
 
-  pub prefix-length : (W : List ℕ) → n ≡ countOf b 1 → length W ≡ 2048 → length (take n W) ≡ countOf b 1
+  pub prefix-length : (W : List ℕ) → n ≡ atomCount b → length W ≡ 2048 → length (take n W) ≡ atomCount b
   prefix-length W e room = length-take-le n W (prefix-room W e room) ∙ e
 
-  pub prefix-count : (W : List ℕ) → n ≡ countOf b 1 → length W ≡ 2048 → n ≡ length (take n W)
+  pub prefix-count : (W : List ℕ) → n ≡ atomCount b → length W ≡ 2048 → n ≡ length (take n W)
   prefix-count W e room = sym (length-take-le n W (prefix-room W e room))

@@ -6,7 +6,7 @@ use Prim.Native.Nat.{ℕ, _<_}
 use lib.Dec.{eqb}
 use lib.ListN.{length, getD}
 use Rattle.theory.specs.Truth.{isUndefined}
-use Rattle.meaning.specs.Format.{countOf}
+use Rattle.meaning.specs.Format.{atomCount}
 use Rattle.meaning.specs.Reading.{Kind}
 use Rattle.book.specs.Records.{kindRead, levelRead}
 use Rattle.judge.specs.Held.{held}
@@ -29,4 +29,4 @@ dueIn b n A a = cond (pendingIn b n A a) (stepsOf (kindRead b a)) 0
 -- D has this for each atom
 pub record Due (b : List ℕ) (n : ℕ) (A D : List ℕ) : Type 0 where
   pub long : length D ≡ 2048
-  pub steps : (a : ℕ) → a < countOf b 1 → getD D a 0 ≡ dueIn b n A a
+  pub steps : (a : ℕ) → a < atomCount b → getD D a 0 ≡ dueIn b n A a

@@ -7,7 +7,7 @@ use Prim.Native.Nat.{ℕ, zero, suc, _<_}
 use lib.Dec.{eqb, leb}
 use lib.ListN.{length, getD, take}
 use Rattle.theory.specs.Truth.{Truth, isFalse, isTrue}
-use Rattle.meaning.specs.Format.{countOf}
+use Rattle.meaning.specs.Format.{atomCount}
 use Rattle.meaning.specs.Reading.{truthOf}
 use Rattle.meaning.specs.Truth.{bodyTruth}
 use Rattle.meaning.specs.Model.{answersOf, derived, refuted, round}
@@ -34,13 +34,13 @@ headTruth b A a (suc k) =
 -- what has been gathered from the first k rules for the atoms to which a step is due
 pub record Gathered (b A D best : List ℕ) (k : ℕ) : Type 0 where
   pub long : length best ≡ 2048
-  pub truths : (a : ℕ) → a < countOf b 1 → (getD D a 0 ≡ 0 → ⊥) → truthOf (getD best a 0) ≡ headTruth b A a k
+  pub truths : (a : ℕ) → a < atomCount b → (getD D a 0 ≡ 0 → ⊥) → truthOf (getD best a 0) ≡ headTruth b A a k
 
 -- the same for all rules, in the words of steps (a) and (b)
 pub record Judged (b A D best : List ℕ) : Type 0 where
-  pub rises : (a : ℕ) → a < countOf b 1 → (getD D a 0 ≡ 0 → ⊥) →
+  pub rises : (a : ℕ) → a < atomCount b → (getD D a 0 ≡ 0 → ⊥) →
       isTrue (truthOf (getD best a 0)) ≡ derived (rulesIn b) (answersOf (answersIn A)) a
-  pub sinks : (a : ℕ) → a < countOf b 1 → (getD D a 0 ≡ 0 → ⊥) →
+  pub sinks : (a : ℕ) → a < atomCount b → (getD D a 0 ≡ 0 → ⊥) →
       isFalse (truthOf (getD best a 0)) ≡ refuted (rulesIn b) (answersOf (answersIn A)) a
 
 -- what an atom gets: due the number of steps that may decide it, x its answer, best the truth of its rules, assumed
@@ -65,6 +65,6 @@ pub record Settled (A D best W now : List ℕ) (changed : Bool) (i : ℕ) : Type
 -- the model's round at the answers A, and whether it changes anything
 pub record Turn (b : List ℕ) (n : ℕ) (A after : List ℕ) (changed : Bool) : Type 0 where
   pub long : length after ≡ 2048
-  pub is : answersIn (take (countOf b 1) after) ≡ round (rulesIn b) (levelsIn b) n (answersIn A)
+  pub is : answersIn (take (atomCount b) after) ≡ round (rulesIn b) (levelsIn b) n (answersIn A)
   pub rests : changed ≡ false → round (rulesIn b) (levelsIn b) n (answersIn A) ≡ answersIn A
   pub moves : changed ≡ true → round (rulesIn b) (levelsIn b) n (answersIn A) ≡ answersIn A → ⊥

@@ -9,7 +9,7 @@ use lib.ListN.{length, getD}
 use Rattle.laws.specs.Lists.{anyTo}
 use Rattle.theory.specs.Truth.{Truth, isFalse, isUndefined}
 use Rattle.theory.specs.Answers.{Atoms, wipe}
-use Rattle.meaning.specs.Format.{countOf}
+use Rattle.meaning.specs.Format.{atomCount, comparisonCount}
 use Rattle.meaning.specs.Truth.{bodyTruth}
 use Rattle.meaning.specs.Model.{candidate}
 use Rattle.meaning.specs.Founded.{Unfounded}
@@ -64,15 +64,15 @@ pub record Begins (h e k : ℕ) : Type 0 where
 pub record Known (b W K : List ℕ) (left : ℕ) : Type 0 where
   pub long : length K ≡ 576
   pub few : left < 65534
-  pub late : (c : ℕ) → c < countOf b 4 → left ≤ getD K c 0
-  pub stays : (c : ℕ) → c < countOf b 4 → getD K c 0 ≡ 65535 → isFalse (freshAt b W c) ≡ false
-  pub falls : (c : ℕ) → c < countOf b 4 → getD K c 0 ≡ left → isFalse (freshAt b W c) ≡ true
+  pub late : (c : ℕ) → c < comparisonCount b → left ≤ getD K c 0
+  pub stays : (c : ℕ) → c < comparisonCount b → getD K c 0 ≡ 65535 → isFalse (freshAt b W c) ≡ false
+  pub falls : (c : ℕ) → c < comparisonCount b → getD K c 0 ≡ left → isFalse (freshAt b W c) ≡ true
   pub clear : (k h : ℕ) → getD K (512 + k) 0 ≡ 65535 → 64 * k ≤ h → h < 64 * k + 64 → failsAt b W h ≡ false
 
 -- how far a search of level n has come
 pub record Searched (b : List ℕ) (n : ℕ) (A W K : List ℕ) (left : ℕ) : Type 0 where
   pub assumed : Assumed b n A W
-  pub waits : left ≡ waiting A W (countOf b 1)
+  pub waits : left ≡ waiting A W (atomCount b)
   pub known : Known b W K left
 
 -- it is at W with x left, after rule r was looked at from B with so many left: if no fewer are left, r does not strike

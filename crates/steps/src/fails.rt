@@ -7,7 +7,7 @@ ghost use mathlib.Core.Bool.{not};
 ghost use Prim.Native.Nat.{_+_, _*_, _^_, _<_, _≤_};
 ghost use lib.ListN.{length};
 ghost use Rattle.theory.specs.Truth.{isFalse};
-ghost use Rattle.meaning.specs.Format.{countOf};
+ghost use Rattle.meaning.specs.Format.{atomCount, comparisonCount, hypothesisCount, ruleCount};
 ghost use Rattle.meaning.specs.Truth.{bodyTruth};
 ghost use Rattle.book.specs.Records.{ruleRead};
 ghost use Rattle.judge.specs.Held.{freshAt, held};
@@ -26,8 +26,9 @@ const NOT_FALSE: u16 = 65535;
 
 // Comparison c is judged, and what was found is kept.
 fn judged_false(book: &[u8], assumed: &[u8], known: &mut [u16], left: usize, c: usize) -> bool
-    requires { ⌜ Ready (now book) × (countOf (now book) 1 ≤ length (now assumed))
-        × Known (now book) (now assumed) (now known) left × (c < countOf (now book) 4) ⌝ }
+    requires { let b = now book in
+        ⌜ Ready b × (atomCount b ≤ length (now assumed)) × Known b (now assumed) (now known) left
+        × (c < comparisonCount b) ⌝ }
     ensures is { λ r. ⌜ r ≡ isFalse (freshAt (now (book .entry)) (now (assumed .entry)) c) ⌝ }
     ensures known { λ r. ⌜ Known (now (book .entry)) (now (assumed .entry)) (now (known .exit)) left ⌝ }
 {
@@ -40,8 +41,9 @@ fn judged_false(book: &[u8], assumed: &[u8], known: &mut [u16], left: usize, c: 
 }
 
 fn comparison_fails(book: &[u8], assumed: &[u8], known: &mut [u16], left: usize, c: usize) -> bool
-    requires { ⌜ Ready (now book) × (countOf (now book) 1 ≤ length (now assumed))
-        × Known (now book) (now assumed) (now known) left × (c < countOf (now book) 4) ⌝ }
+    requires { let b = now book in
+        ⌜ Ready b × (atomCount b ≤ length (now assumed)) × Known b (now assumed) (now known) left
+        × (c < comparisonCount b) ⌝ }
     ensures is { λ r. ⌜ r ≡ isFalse (freshAt (now (book .entry)) (now (assumed .entry)) c) ⌝ }
     ensures known { λ r. ⌜ Known (now (book .entry)) (now (assumed .entry)) (now (known .exit)) left ⌝ }
 {
@@ -57,8 +59,9 @@ fn comparison_fails(book: &[u8], assumed: &[u8], known: &mut [u16], left: usize,
 
 // 0 atom, 1 not atom, 2 comparison.
 fn fails(book: &[u8], assumed: &[u8], known: &mut [u16], left: usize, h: usize) -> bool
-    requires { ⌜ Ready (now book) × (countOf (now book) 1 ≤ length (now assumed))
-        × Known (now book) (now assumed) (now known) left × (h < countOf (now book) 3) ⌝ }
+    requires { let b = now book in
+        ⌜ Ready b × (atomCount b ≤ length (now assumed)) × Known b (now assumed) (now known) left
+        × (h < hypothesisCount b) ⌝ }
     ensures is { λ r. ⌜ r ≡ failsAt (now (book .entry)) (now (assumed .entry)) h ⌝ }
     ensures known { λ r. ⌜ Known (now (book .entry)) (now (assumed .entry)) (now (known .exit)) left ⌝ }
 {
@@ -79,8 +82,9 @@ fn some_fails(
     first: usize,
     end: usize,
 ) -> bool
-    requires { ⌜ Ready (now book) × (countOf (now book) 1 ≤ length (now assumed))
-        × Known (now book) (now assumed) (now known) left × (first ≤ end) × (end ≤ countOf (now book) 3) ⌝ }
+    requires { let b = now book in
+        ⌜ Ready b × (atomCount b ≤ length (now assumed)) × Known b (now assumed) (now known) left × (first ≤ end)
+        × (end ≤ hypothesisCount b) ⌝ }
     ensures is { λ r. ⌜ r ≡ failsIn (now (book .entry)) (now (assumed .entry)) first end ⌝ }
     ensures known { λ r. ⌜ Known (now (book .entry)) (now (assumed .entry)) (now (known .exit)) left ⌝ }
 {
@@ -96,8 +100,9 @@ fn some_fails(
 
 // The same of block k.
 fn block_fails(book: &[u8], assumed: &[u8], known: &mut [u16], left: usize, k: usize) -> bool
-    requires { ⌜ Ready (now book) × (countOf (now book) 1 ≤ length (now assumed))
-        × Known (now book) (now assumed) (now known) left × (k < 64) × (64 * k + 64 ≤ countOf (now book) 3) ⌝ }
+    requires { let b = now book in
+        ⌜ Ready b × (atomCount b ≤ length (now assumed)) × Known b (now assumed) (now known) left × (k < 64)
+        × (64 * k + 64 ≤ hypothesisCount b) ⌝ }
     ensures is { λ r. ⌜ r ≡ failsIn (now (book .entry)) (now (assumed .entry)) (64 * k) (64 * k + 64) ⌝ }
     ensures known { λ r. ⌜ Known (now (book .entry)) (now (assumed .entry)) (now (known .exit)) left ⌝ }
 {
@@ -127,8 +132,9 @@ fn block_at(h: usize, end: usize) -> usize
 
 // Is no hypothesis of rule r false?
 pub fn supports(book: &[u8], assumed: &[u8], known: &mut [u16], left: usize, r: usize) -> bool
-    requires { ⌜ Ready (now book) × (countOf (now book) 1 ≤ length (now assumed))
-        × Known (now book) (now assumed) (now known) left × (r < countOf (now book) 2) ⌝ }
+    requires { let b = now book in
+        ⌜ Ready b × (atomCount b ≤ length (now assumed)) × Known b (now assumed) (now known) left ×
+        (r < ruleCount b) ⌝ }
     ensures is { λ x. ⌜ x ≡ not (isFalse (bodyTruth (held (now (assumed .entry)))
         (ruleRead (now (book .entry)) r .body))) ⌝ }
     ensures known { λ x. ⌜ Known (now (book .entry)) (now (assumed .entry)) (now (known .exit)) left ⌝ }

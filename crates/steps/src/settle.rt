@@ -4,6 +4,7 @@ ghost use Prim.Native.Nat.{_<_, _≤_};
 ghost use lib.ListN.{length};
 ghost use Rattle.meaning.specs.Reading.{codeOf, truthOf};
 ghost use Rattle.steps.specs.Round.{Settled, nextTruth};
+use book::tables::MOST_ATOMS;
 use judge::literal::answer;
 use judge::literal::set_answer;
 
@@ -31,7 +32,7 @@ fn next_answer(due: u8, x: u8, best: u8, assumed: u8) -> u8
 }
 
 pub struct Settling {
-    pub answers: [u8; 2048],
+    pub answers: [u8; MOST_ATOMS],
     // whether some answer differs from before
     pub changed: bool,
 }
@@ -40,11 +41,12 @@ pub struct Settling {
 pub fn settle(answers: &[u8], due: &[u8], best: &[u8], assumed: &[u8]) -> Settling
     requires { ⌜ (length (now answers) ≤ 2048) × (length (now due) ≡ 2048) × (length (now best) ≡ 2048)
         × (length (now assumed) ≡ 2048) ⌝ }
-    ensures { λ r. ⌜ Settled (now (answers .entry)) (now (due .entry)) (now (best .entry)) (now (assumed .entry))
-        (r .answers) (r .changed) (length (now (answers .entry))) ⌝ }
+    ensures { λ r. let A = now (answers .entry) in
+        ⌜ Settled A (now (due .entry)) (now (best .entry)) (now (assumed .entry)) (r .answers) (r .changed)
+        (length A) ⌝ }
 {
     let n = answers.len();
-    let mut now = [0u8; 2048];
+    let mut now = [0u8; MOST_ATOMS];
     let mut changed = false;
     let mut a = 0;
     while a < n {

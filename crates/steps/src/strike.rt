@@ -3,7 +3,7 @@ ghost use mathlib.Core.Path.{_≡_};
 ghost use mathlib.Core.Bool.{true};
 ghost use Prim.Native.Nat.{_<_, _≤_};
 ghost use lib.ListN.{length, set};
-ghost use Rattle.meaning.specs.Format.{countOf};
+ghost use Rattle.meaning.specs.Format.{atomCount, ruleCount};
 ghost use Rattle.book.specs.Records.{ruleIn};
 ghost use Rattle.steps.specs.Work.{Ready};
 ghost use Rattle.steps.specs.Strike.{Come, Known, Searched, Struck, strikesAt};
@@ -13,6 +13,7 @@ use crate::order::after;
 use crate::order::remember;
 use book::fields::rule_head;
 use book::readers::count_of;
+use book::tables::RULES;
 use judge::literal::answer;
 use judge::literal::set_answer;
 
@@ -33,9 +34,9 @@ fn strikes(
     left: usize,
     r: usize,
 ) -> bool
-    requires { ⌜ Ready (now book) × (length (now answers) ≡ countOf (now book) 1)
-        × (countOf (now book) 1 ≤ length (now assumed)) × Known (now book) (now assumed) (now known) left
-        × (r < countOf (now book) 2) ⌝ }
+    requires { let b = now book in
+        ⌜ Ready b × (length (now answers) ≡ atomCount b) × (atomCount b ≤ length (now assumed))
+        × Known b (now assumed) (now known) left × (r < ruleCount b) ⌝ }
     ensures is { λ x. ⌜ x ≡ strikesAt (now (book .entry)) (now (answers .entry)) (now (assumed .entry)) r ⌝ }
     ensures known { λ x. ⌜ Known (now (book .entry)) (now (assumed .entry)) (now (known .exit)) left ⌝ }
 {
@@ -51,7 +52,7 @@ fn strikes(
 
 // The head of rule r counts as false no longer.
 fn strike_out(book: &[u8], assumed: &mut [u8], r: usize)
-    requires { ⌜ Ready (now book) × (countOf (now book) 1 ≤ length (now assumed)) × (r < countOf (now book) 2) ⌝ }
+    requires { let b = now book in ⌜ Ready b × (atomCount b ≤ length (now assumed)) × (r < ruleCount b) ⌝ }
     ensures { λ x. ⌜ now (assumed .exit) ≡ set (now (assumed .entry)) (ruleIn (now (book .entry)) r .head) 0 ⌝ }
 {
     set_answer(assumed, rule_head(book, r), 0);
@@ -67,8 +68,8 @@ fn strike(
     left: usize,
     r: usize,
 ) -> usize
-    requires { ⌜ Ready (now book) × (length (now answers) ≡ countOf (now book) 1)
-        × Searched (now book) level (now answers) (now assumed) (now known) left × (r < countOf (now book) 2) ⌝ }
+    requires { let b = now book in let A = now answers in
+        ⌜ Ready b × (length A ≡ atomCount b) × Searched b level A (now assumed) (now known) left × (r < ruleCount b) ⌝ }
     ensures { λ x. ⌜ Struck (now (book .entry)) level (now (answers .entry)) (now (assumed .entry))
         (now (assumed .exit)) (now (known .exit)) r left x ⌝ }
 {
@@ -89,13 +90,13 @@ fn try_order(
     order: &mut [u16],
     start: Search,
 ) -> Search
-    requires { ⌜ Ready (now book) × (length (now answers) ≡ countOf (now book) 1) × (length (now order) ≡ 2049)
-        × (start .front < 2049)
-        × Searched (now book) level (now answers) (now assumed) (now known) (start .left) ⌝ }
+    requires { let b = now book in let A = now answers in
+        ⌜ Ready b × (length A ≡ atomCount b) × (length (now order) ≡ 2049) × (start .front < 2049)
+        × Searched b level A (now assumed) (now known) (start .left) ⌝ }
     ensures { λ s. ⌜ Come (now (book .entry)) level (now (answers .entry)) (now (assumed .exit)) (now (known .exit))
         (start .left) (s .front) (s .left) (s .more) ⌝ }
 {
-    let rules = count_of(book, 2);
+    let rules = count_of(book, RULES);
     let mut front = start.front;
     let mut left = start.left;
     let mut p = front;
@@ -135,14 +136,14 @@ fn pass(
     order: &mut [u16],
     start: Search,
 ) -> Search
-    requires { ⌜ Ready (now book) × (length (now answers) ≡ countOf (now book) 1) × (length (now order) ≡ 2049)
-        × (start .front < 2049)
-        × Searched (now book) level (now answers) (now assumed) (now known) (start .left) ⌝ }
+    requires { let b = now book in let A = now answers in
+        ⌜ Ready b × (length A ≡ atomCount b) × (length (now order) ≡ 2049) × (start .front < 2049)
+        × Searched b level A (now assumed) (now known) (start .left) ⌝ }
     ensures come { λ s. ⌜ Come (now (book .entry)) level (now (answers .entry)) (now (assumed .exit))
         (now (known .exit)) (start .left) (s .front) (s .left) (s .more) ⌝ }
     ensures lower { λ s. ⌜ (s .more ≡ true → s .left < start .left) ⌝ }
 {
-    let rules = count_of(book, 2);
+    let rules = count_of(book, RULES);
     let most = start.left;
     let mut front = start.front;
     let mut left = most;
@@ -174,9 +175,9 @@ pub fn turn(
     order: &mut [u16],
     start: Search,
 ) -> Search
-    requires { ⌜ Ready (now book) × (length (now answers) ≡ countOf (now book) 1) × (length (now order) ≡ 2049)
-        × (start .front < 2049)
-        × Searched (now book) level (now answers) (now assumed) (now known) (start .left) ⌝ }
+    requires { let b = now book in let A = now answers in
+        ⌜ Ready b × (length A ≡ atomCount b) × (length (now order) ≡ 2049) × (start .front < 2049)
+        × Searched b level A (now assumed) (now known) (start .left) ⌝ }
     ensures come { λ s. ⌜ Come (now (book .entry)) level (now (answers .entry)) (now (assumed .exit))
         (now (known .exit)) (start .left) (s .front) (s .left) (s .more) ⌝ }
     ensures lower { λ s. ⌜ (s .more ≡ true → s .left < start .left) ⌝ }

@@ -5,7 +5,7 @@ ghost use mathlib.Core.Bool.{_&&_, cond};
 ghost use Prim.Native.Nat.{_<_};
 ghost use lib.ListN.{length, set};
 ghost use Rattle.theory.specs.Truth.{isFalse, isUndefined};
-ghost use Rattle.meaning.specs.Format.{countOf};
+ghost use Rattle.meaning.specs.Format.{atomCount};
 ghost use Rattle.meaning.specs.Reading.{codeOf, truthOf};
 ghost use Rattle.steps.specs.Work.{Exact, Ready};
 ghost use Rattle.steps.specs.Due.{Due};
@@ -14,6 +14,7 @@ use crate::order::START;
 use crate::strike::Search;
 use crate::strike::turn;
 use book::casts::wide;
+use book::tables::MOST_ATOMS;
 use judge::literal::answer;
 use judge::literal::set_answer;
 
@@ -45,19 +46,19 @@ fn assume_at(assumed: &mut [u8], a: usize, due: u8, x: u8) -> u16
 
 // What is assumed, and how many atoms are undefined and only assumed false.
 pub struct Assumption {
-    pub answers: [u8; 2048],
+    pub answers: [u8; MOST_ATOMS],
     pub left: usize,
 }
 
 // All candidates counted as false: the atoms to which all three steps are due.
 fn assume(book: &[u8], level: usize, answers: &[u8], due: &[u8]) -> Assumption
-    requires { ⌜ Ready (now book) × (length (now answers) ≡ countOf (now book) 1)
-        × Due (now book) level (now answers) (now due) ⌝ }
+    requires { let b = now book in let A = now answers in
+        ⌜ Ready b × (length A ≡ atomCount b) × Due b level A (now due) ⌝ }
     ensures assumed { λ r. ⌜ Assumed (now (book .entry)) level (now (answers .entry)) (r .answers) ⌝ }
-    ensures left { λ r. ⌜ r .left ≡ waiting (now (answers .entry)) (r .answers) (countOf (now (book .entry)) 1) ⌝ }
+    ensures left { λ r. ⌜ r .left ≡ waiting (now (answers .entry)) (r .answers) (atomCount (now (book .entry))) ⌝ }
 {
     let n = answers.len();
-    let mut assumed = [0u8; 2048];
+    let mut assumed = [0u8; MOST_ATOMS];
     let mut left = 0u16;
     let mut a = 0;
     while a < n {
@@ -78,9 +79,9 @@ pub fn unfounded(
     answers: &[u8],
     due: &[u8],
     order: &mut [u16],
-) -> [u8; 2048]
-    requires { ⌜ Ready (now book) × (length (now answers) ≡ countOf (now book) 1)
-        × Due (now book) level (now answers) (now due) × (length (now order) ≡ 2049) ⌝ }
+) -> [u8; MOST_ATOMS]
+    requires { let b = now book in let A = now answers in
+        ⌜ Ready b × (length A ≡ atomCount b) × Due b level A (now due) × (length (now order) ≡ 2049) ⌝ }
     ensures { λ r. ⌜ Exact (now (book .entry)) level (now (answers .entry)) r ⌝ }
 {
     let start = assume(book, level, answers, due);

@@ -12,8 +12,10 @@ use Rattle.theory.specs.Truth.{Truth, _≼_}
 use Rattle.theory.specs.Answers.{Answers, _⊑_, Atoms, wipe, NoneTrue}
 use Rattle.theory.specs.Rules.{Derived}
 use Rattle.theory.specs.Steps.{Never, never, Unfounded, Step, Run, start, next, Final, Ended, Fresh}
-use Rattle.theory.specs.Levels.{Book, Layers, whole, at-level, certain-level, rest, close, Levels, none, uncertain, certain, under}
-use Rattle.theory.proofs.Truth.{clash, undefined-true, undefined-false, undefined-of, by-answer, ≼-refl, ≼-trans, known-≼, undefined-≼}
+use Rattle.theory.specs.Levels.{Book, Layers, whole, at-level, certain-level, rest, close, Levels, none}
+use Rattle.theory.specs.Levels.{uncertain, certain, under}
+use Rattle.theory.proofs.Truth.{clash, undefined-true, undefined-false, undefined-of, by-answer, ≼-refl, ≼-trans}
+use Rattle.theory.proofs.Truth.{known-≼, undefined-≼}
 use Rattle.theory.proofs.Answers.{⊑-refl, ⊑-trans, wipe-over}
 use Rattle.theory.proofs.Steps.{run-append}
 use Rattle.theory.proofs.Consistent.{settled}

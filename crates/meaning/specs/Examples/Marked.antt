@@ -4,8 +4,11 @@ use Prim.Native.Nat.{ℕ}
 use mathlib.Core.List.{List, [], _∷_}
 use lib.IntN.{pos}
 use lib.ListN.{replicate}
-use Rattle.meaning.specs.Reading.{Hypothesis, Kind, Relation, certain, closed, complete, eq, ge, le, lt, ne, negated, «open», plain}
-use Rattle.meaning.specs.Examples.Notation.{Example, _for_, _⇐_, accepted, atom, book, count, fact, false, four, given, is, max, min, not, predicate, refused, setByte, sum, three, true, two, undefined}
+use Rattle.meaning.specs.Reading.{Hypothesis, Kind, Relation, certain, closed, complete, eq, ge, le, lt, ne}
+use Rattle.meaning.specs.Reading.{negated, «open», plain}
+use Rattle.meaning.specs.Examples.Notation.{Example, _for_, _⇐_, accepted, atom, book, count, fact, false, four}
+use Rattle.meaning.specs.Examples.Notation.{given, is, max, min, not, predicate, refused, setByte, sum, three}
+use Rattle.meaning.specs.Examples.Notation.{true, two, undefined}
 
 -- Book of 48 bytes, counts 0, offsets 48.
 abbrev pub empty : List ℕ

@@ -2,8 +2,11 @@
 use Prim.Native.Nat.{ℕ}
 use mathlib.Core.List.{List, [], _∷_, _++_}
 use lib.IntN.{ℤ, pos}
-use Rattle.meaning.specs.Reading.{Aggregate, Hypothesis, Kind, Relation, certain, closed, complete, eq, ge, gt, le, lt, ne, «open», plain}
-use Rattle.meaning.specs.Examples.Notation.{Example, _for_, _⇐_, accepted, atom, book, compare, count, fact, false, four, given, is, max, min, minus, nines, not, predicate, rule, setByte, sum, three, true, two, undefined}
+use Rattle.meaning.specs.Reading.{Aggregate, Hypothesis, Kind, Relation, certain, closed, complete, eq, ge, gt}
+use Rattle.meaning.specs.Reading.{le, lt, ne, «open», plain}
+use Rattle.meaning.specs.Examples.Notation.{Example, _for_, _⇐_, accepted, atom, book, compare, count, fact}
+use Rattle.meaning.specs.Examples.Notation.{false, four, given, is, max, min, minus, nines, not, predicate, rule}
+use Rattle.meaning.specs.Examples.Notation.{setByte, sum, three, true, two, undefined}
 use Rattle.meaning.specs.Examples.Marked.{listing, minOfFour}
 
 -- a definite element and one of given byte, both open, and a comparison of them in the body of c

@@ -3,8 +3,11 @@ use Prim.Native.Nat.{ℕ}
 use mathlib.Core.List.{List, [], _∷_, _++_, map}
 use lib.IntN.{pos}
 use lib.ListN.{take}
-use Rattle.meaning.specs.Reading.{Aggregate, Hypothesis, Kind, Literal, Relation, certain, closed, complete, eq, ge, gt, le, lt, ne, negated, «open», plain}
-use Rattle.meaning.specs.Examples.Notation.{Example, _for_, _⇐_, accepted, atom, book, compare, count, fact, four, given, is, max, nines, not, predicate, refused, rule, setByte, setCount, setOffset, three, true, two, undefined}
+use Rattle.meaning.specs.Reading.{Aggregate, Hypothesis, Kind, Literal, Relation, certain, closed, complete, eq}
+use Rattle.meaning.specs.Reading.{ge, gt, le, lt, ne, negated, «open», plain}
+use Rattle.meaning.specs.Examples.Notation.{Example, _for_, _⇐_, accepted, atom, book, compare, count, fact, four}
+use Rattle.meaning.specs.Examples.Notation.{given, is, max, nines, not, predicate, refused, rule, setByte}
+use Rattle.meaning.specs.Examples.Notation.{setCount, setOffset, three, true, two, undefined}
 use Rattle.meaning.specs.Examples.Marked.{empty, listing}
 
 -- a book with records in every table: m ← max{5: q, 3: r} ≠ 3; n ← count{q, not r} ≥ 1, m; 133 bytes

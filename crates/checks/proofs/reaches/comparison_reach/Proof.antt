@@ -2,14 +2,14 @@
 use mathlib.Core.Path.{_≡_}
 use Prim.Native.Nat.{_-_, _≤_}
 use borrow.Author.Needs.{needs}
-use Rattle.meaning.specs.Format.{countOf}
+use Rattle.meaning.specs.Format.{elementCount}
 use Rattle.checks.proofs.ReachLaws.{elements, reachTo, to-more}
 use Rattle.checks.proofs.reaches.comparison_reach.Statement.{statement}
 use Rattle.checks.proofs.reaches.comparison_reach.Tie as tie
 
 abbrev Inv-loop : tie.InvT-loop
 Inv-loop book aspect c aggregate relation plain negated first end reach₀ e₀ reach e =
-    (first ≤ e) × (e ≤ end) × (end ≤ countOf book 5) × (reach ≤ 256)
+    (first ≤ e) × (e ≤ end) × (end ≤ elementCount book) × (reach ≤ 256)
     × (reach ≡ reachTo book aspect plain negated first e)
 
 abbrev μ-loop : tie.MeasureT-loop

@@ -1,4 +1,4 @@
--- `signs::shrinks_in` meets its contract: the relations below, for count alone. Assumes nothing.
+-- `signs::shrinks_in` meets its contract: a code that is not listed is read as max. Assumes nothing.
 use borrow.Author.Needs.{needs}
 use Rattle.checks.proofs.SignLaws.{signs}
 use Rattle.checks.proofs.signs.shrinks_in.Statement.{statement}
@@ -7,4 +7,5 @@ use Rattle.checks.proofs.signs.shrinks_in.Tie as tie
 pub shrinks-in-spec : {M : Type 1} → statement M
 shrinks-in-spec =
     tie.close
-    (tie.spec (λ c. search (needs, signs)) (λ c. search (needs, signs)))
+    (tie.spec (λ c κs. search needs) (λ c. search (needs, signs)) (λ c. search (needs, signs))
+    (λ c. search (needs, signs)) (λ c. search (needs, signs)) (λ c. search (needs, signs)))

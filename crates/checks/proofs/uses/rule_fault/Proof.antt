@@ -2,14 +2,14 @@
 use Prim.Native.Nat.{_-_, _≤_}
 use borrow.Author.Needs.{needs}
 use Rattle.laws.proofs.Ranges.{NoneBetween}
-use Rattle.meaning.specs.Format.{countOf}
+use Rattle.meaning.specs.Format.{hypothesisCount}
 use Rattle.checks.proofs.RuleLaws.{above, hypotheses, within}
 use Rattle.checks.proofs.uses.rule_fault.Statement.{statement}
 use Rattle.checks.proofs.uses.rule_fault.Tie as tie
 
 abbrev Inv-loop : tie.InvT-loop
 Inv-loop book found aspect r head limit first end h₀ h =
-    (first ≤ h) × (h ≤ end) × (end ≤ countOf book 3) × NoneBetween (above book aspect limit) first h
+    (first ≤ h) × (h ≤ end) × (end ≤ hypothesisCount book) × NoneBetween (above book aspect limit) first h
 
 abbrev μ-loop : tie.MeasureT-loop
 μ-loop book found aspect r head limit first end h₀ h = end - h

@@ -4,14 +4,14 @@ use borrow.Author.Needs.{needs}
 use Prim.Native.Nat.{_-_}
 use mathlib.Core.Path.{_≡_}
 use lib.ListN.{length, take}
-use Rattle.meaning.specs.Format.{countOf}
+use Rattle.meaning.specs.Format.{atomCount}
 use Rattle.engine.proofs.RestLaws.{Turning, left, resting}
 use Rattle.engine.proofs.rounds.rounds.Statement.{statement}
 use Rattle.engine.proofs.rounds.rounds.Tie as tie
 
 abbrev Inv-loop : tie.InvT-loop
 Inv-loop book level order₀ n answers₀ more₀ order answers more =
-    (length order ≡ 2049) × Turning book level (take (countOf book 1) answers₀) answers more
+    (length order ≡ 2049) × Turning book level (take (atomCount book) answers₀) answers more
 
 abbrev μ-loop : tie.MeasureT-loop
 μ-loop book level order₀ n answers₀ more₀ order answers more = left book level answers more
