@@ -39,7 +39,7 @@ def declared():
         with open(path, encoding="utf-8") as f:
             text = plain(f.read())
         for line in text.split("\n"):
-            if re.match(r"\s*((pub )?mod|use|module|infix\w?|unfolding|open)\b", line):
+            if re.match(r"\s*((pub )?mod|use|module|infix\w?|unfolding|open)(?=\s|$)", line):
                 continue
             m = re.match(r"\s*(?:(?:abbrev|unfoldable|pub)\s+)*((?:" + WORD + r"\s+)+):(?=\s|$)", line)
             if m:

@@ -89,10 +89,10 @@ meet_false Truth.true = refl
 meet_false Truth.false = refl
 
 -- what is not false stays open beside something undefined
-open-meet : (x : Truth) → code_of x < 2 → meet x Truth.undefined ≡ Truth.undefined
-open-meet Truth.undefined l = refl
-open-meet Truth.true l = refl
-open-meet Truth.false l = absurd (omega (arith, l))
+open_meet : (x : Truth) → code_of x < 2 → meet x Truth.undefined ≡ Truth.undefined
+open_meet Truth.undefined l = refl
+open_meet Truth.true l = refl
+open_meet Truth.false l = absurd (omega (arith, l))
 
 meet_assoc : (x y z : Truth) → meet (meet x y) z ≡ meet x (meet y z)
 meet_assoc Truth.true y z = refl
@@ -203,7 +203,7 @@ module _ (b W : List ℕ) (first : ℕ) where
     pub body_undefined : (y : ℕ) → y ≡ code_of (body_to i) → y < 2 → (x ≡ 1 → ⊥) → (x ≡ 2 → ⊥) →
         0 ≡ code_of (body_to (i + 1))
     body_undefined y ey s p q =
-        rw (body_more, rest_undefined x p q, open-meet (body_to i) (omega (arith, ey, s)))
+        rw (body_more, rest_undefined x p q, open_meet (body_to i) (omega (arith, ey, s)))
 
     pub body_false : x ≡ 2 → 2 ≡ code_of (body_truth (held W) (rule_read b r).body)
     body_false e =

@@ -3,7 +3,7 @@ use mathlib.Core.Path.{◌≡◌, refl, sym, ap}
 use mathlib.Core.Logic.{◌⊎◌, inl, inr, ⊎_elim}
 use mathlib.Core.Bool.{Bool, false, So, false≢true}
 use mathlib.Core.List.{List, [], ◌∷◌, ◌++◌, map}
-use Prim.Native.Nat.{ℕ, zero, suc, ◌+◌, ◌<◌}
+use Prim.Native.Nat.{ℕ, zero, suc, ◌<◌}
 use lib.ListN.{length, get_or, take, drop}
 use native.Mathlib.Omega.{arith}
 use Rattle.laws.specs.Lists.{In, all, any, gather}
@@ -17,11 +17,13 @@ module _ {X : Type 0} (f : X → Bool) where
       by-test (f x) (λ y. (x, inl refl, y)) (λ n. let (z, i, y) = any_entry xs (rw n at e) in (z, inr i, y))
 
   pub entry_any : (xs : List X) (x : X) → In x xs → So (f x) → So (any f xs)
+  entry_any [] x i e = elim i [ ]
   entry_any (y ∷ ys) x (inl q) e = or_l (f y) (any f ys) (rw q e)
   entry_any (y ∷ ys) x (inr i) e = or_r (f y) (any f ys) (entry_any ys x i e)
 
   -- what passes everywhere passes at each entry
   pub all_entry : (xs : List X) → So (all f xs) → (x : X) → In x xs → So (f x)
+  all_entry [] e x i = elim i [ ]
   all_entry (y ∷ ys) e x (inl q) = rw (← q) (left (f y) (all f ys) e)
   all_entry (y ∷ ys) e x (inr i) = all_entry ys (right (f y) (all f ys) e) x i
 
@@ -54,6 +56,7 @@ module _ {X : Type 0} (f g : X → Bool) where
 -- entries of joined lists, of the first n entries and of those after them
 module _ {X : Type 0} where
   pub in_left : (xs ys : List X) (x : X) → In x xs → In x (xs ++ ys)
+  in_left [] ys x i = elim i [ ]
   in_left (z ∷ xs) ys x (inl e) = inl e
   in_left (z ∷ xs) ys x (inr i) = inr (in_left xs ys x i)
 
@@ -84,24 +87,29 @@ module _ {X : Type 0} where
   get_or_in d (x ∷ xs) (suc k) l = inr (get_or_in d xs k (omega (arith, l)))
 
   pub in_get_or : (d : X) (xs : List X) (x : X) → In x xs → (k : ℕ) × (k < length xs) × (get_or xs k d ≡ x)
+  in_get_or d [] x i = elim i [ ]
   in_get_or d (y ∷ ys) x (inl e) = (0, omega arith, e)
   in_get_or d (y ∷ ys) x (inr i) = let (k, l, e) = in_get_or d ys x i in (suc k, omega (arith, l), e)
 
 -- entries of mapped lists and of joined ones
 module _ {X Y : Type 0} where
   pub in_map : (f : X → Y) (xs : List X) (x : X) → In x xs → In (f x) (map f xs)
+  in_map f [] x i = elim i [ ]
   in_map f (z ∷ xs) x (inl e) = inl (ap f e)
   in_map f (z ∷ xs) x (inr i) = inr (in_map f xs x i)
 
   pub map_in : (f : X → Y) (xs : List X) (y : Y) → In y (map f xs) → (x : X) × In x xs × (f x ≡ y)
+  map_in f [] y i = elim i [ ]
   map_in f (z ∷ xs) y (inl e) = (z, inl refl, e)
   map_in f (z ∷ xs) y (inr i) = let (x, j, e) = map_in f xs y i in (x, inr j, e)
 
   pub in_gather : (f : X → List Y) (xs : List X) (x : X) (y : Y) → In x xs → In y (f x) → In y (gather f xs)
+  in_gather f [] x y m i = elim m [ ]
   in_gather f (z ∷ xs) x y (inl e) i = in_left (f z) (gather f xs) y (rw e i)
   in_gather f (z ∷ xs) x y (inr j) i = in_right (f z) (gather f xs) y (in_gather f xs x y j i)
 
   pub gather_in : (f : X → List Y) (xs : List X) (y : Y) → In y (gather f xs) → (x : X) × In x xs × In y (f x)
+  gather_in f [] y i = elim i [ ]
   gather_in f (z ∷ xs) y i =
       ⊎_elim (λ j. (z, inl refl, j)) (λ j. let (x, k, l) = gather_in f xs y j in (x, inr k, l))
       (in_append (f z) (gather f xs) y i)

@@ -1,7 +1,7 @@
 -- Tests over the numbers below a bound, a loop that looks for one that passes, and the same over a list's places.
 -- Assumes nothing.
 use mathlib.Core.Path.{◌≡◌, refl, sym, ap, ◌∙◌}
-use mathlib.Core.Logic.{◌⊎◌, ⊎_elim, by_cases}
+use mathlib.Core.Logic.{⊎_elim, by_cases}
 use mathlib.Core.Bool.{Bool, true, false, So, false≢true}
 use mathlib.Core.List.{List}
 use Prim.Native.Nat.{ℕ, zero, suc, ◌+◌, ◌<◌, ◌≤◌}

@@ -1,6 +1,6 @@
 -- An accepted book is sound: what the absent refusals 4, 5 and 7 to 11 say of its rules as read. Assumes nothing.
 use mathlib.Core.Path.{◌≡◌, refl, sym, ap, ◌∙◌, subst}
-use mathlib.Core.Logic.{inl, by_cases}
+use mathlib.Core.Logic.{inl, inr, by_cases}
 use mathlib.Core.Bool.{Bool, true, false, not, cond, ◌&&◌, ◌||◌, beq, So, false≢true}
 use mathlib.Core.List.{List, [], map}
 use mathlib.Core.Option.{none}
@@ -74,10 +74,10 @@ module _ (t : Tables) where
   unfolding reading
   rule_of_lem r i = map_in (rule_of t) t.rules r i
 
-  use-of : (r : Rule) → In r (reading t).rules → (u : Use) → In u (uses r) →
+  use_of : (r : Rule) → In r (reading t).rules → (u : Use) → In u (uses r) →
       (h : HypothesisRecord) × In h t.hypotheses × In u (uses_of (hypothesis_in t h))
   unfolding uses rule_of
-  use-of r i u j =
+  use_of r i u j =
       let (x, _, q) = rule_of_lem r i in
       let (h, k, l) = gather_in uses_of r.body u j in
       let k' = subst (λ (z : Rule). In h z.body) (sym q) k in
@@ -138,12 +138,14 @@ module _ (t : Tables) (A : Absent t) where
       subst (λ (y : Rule). y.head < atoms) q l
 
   -- by sort: the index is an atom's, or a comparison's, whose elements speak of atoms that are there
-  use-in-hypothesis : (sort index : ℕ) → leb (cond (ltb sort 2) atoms (length t.comparisons)) index ≡ false →
+  use_in_hypothesis : (sort index : ℕ) → leb (cond (ltb sort 2) atoms (length t.comparisons)) index ≡ false →
       (u : Use) → In u (uses_of (hypothesis_of t sort index)) → u.atom < atoms
   unfolding uses_of hypothesis_of comparison_of element_of elements_of refusal5
-  use-in-hypothesis zero index f u (inl e) = rw (← e) (leb-false atoms index f)
-  use-in-hypothesis (suc zero) index f u (inl e) = rw (← e) (leb-false atoms index f)
-  use-in-hypothesis (suc (suc sort)) index f u i =
+  use_in_hypothesis zero index f u (inr i) = elim i [ ]
+  use_in_hypothesis zero index f u (inl e) = rw (← e) (leb-false atoms index f)
+  use_in_hypothesis (suc zero) index f u (inr i) = elim i [ ]
+  use_in_hypothesis (suc zero) index f u (inl e) = rw (← e) (leb-false atoms index f)
+  use_in_hypothesis (suc (suc sort)) index f u i =
       let (_, (_, (_, (_, (z, _))))) = none_each (stray t) A.indices in
       let c : ComparisonRecord = get_or t.comparisons index no_comparison in
       let (e, j, q) = map_in (element_use (comparison_of t c)) (map element_of (elements_of t c)) u i in
@@ -157,9 +159,9 @@ module _ (t : Tables) (A : Absent t) where
   unfolding refusal5
   use_in r i u j =
       let (_, (_, (e, _))) = none_each (stray t) A.indices in
-      let (h, k, l) = use-of t r i u j in
+      let (h, k, l) = use_of t r i u j in
       let fault : ℕ → HypothesisRecord → Bool = stray_hypothesis atoms (length t.comparisons) in
-      use-in-hypothesis h.sort h.index (clear_entry 5 4 fault no_hypothesis t.hypotheses e h k).1 u l
+      use_in_hypothesis h.sort h.index (clear_entry 5 4 fault no_hypothesis t.hypotheses e h k).1 u l
 
   -- 7, at an atom with a given answer
   given_clear : (a : ℕ) → a < atoms → given_wrongly (reading t) a (atom_at t a) ≡ false

@@ -33,6 +33,7 @@ module _ (A : Answers) where
   pub body_true→ : (hs : List Hypothesis) → body_truth A hs ≡ Truth.true → (h : Hypothesis) → In h hs →
       hypothesis_truth A h ≡ Truth.true
   unfolding body_truth
+  body_true→ [] e h i = elim i [ ]
   body_true→ (x ∷ hs) e h (inl q) = rw (← q) (meet_true (hypothesis_truth A x) (body_truth A hs) e).0
   body_true→ (x ∷ hs) e h (inr i) = body_true→ hs (meet_true (hypothesis_truth A x) (body_truth A hs) e).1 h i
 
@@ -54,5 +55,6 @@ module _ (A : Answers) where
   pub →body_false : (hs : List Hypothesis) (h : Hypothesis) → In h hs → hypothesis_truth A h ≡ Truth.false →
       body_truth A hs ≡ Truth.false
   unfolding body_truth
+  →body_false [] h i f = elim i [ ]
   →body_false (x ∷ hs) h (inl q) f = rw (q, f)
   →body_false (x ∷ hs) h (inr i) f = false_meet (hypothesis_truth A x) (body_truth A hs) (→body_false hs h i f)

@@ -17,7 +17,7 @@ use Rattle.laws.proofs.Repeats.{times_keeps}
 use Rattle.theory.specs.Truth.{Truth, is_undefined}
 use Rattle.theory.specs.Answers.{Answers}
 use Rattle.meaning.specs.Reading.{Kind, Reading, is_certain, kind_at, level_at, level_count}
-use Rattle.meaning.specs.Model.{answers_of, close, closing, level, levels_below, model, next, round}
+use Rattle.meaning.specs.Model.{answers_of, close, closing, level, levels_below, model, round}
 use Rattle.meaning.specs.Founded.{AllCertain, CertainStep, Founded, Levels, NoneCertain, Run, Step, certain}
 use Rattle.meaning.specs.Founded.{closed, none, uncertain}
 use Rattle.meaning.specs.Founded as Founded

@@ -1,1 +1,3 @@
+#![tactic(auto)]
+
 // No code: the crate holds definitions and laws alone.

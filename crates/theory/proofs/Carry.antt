@@ -1,7 +1,7 @@
 -- One level more: where the levels below `n` are final at `J`, only level `n` changes from `J` to `K`, and level `n`
 -- is final at `K`, the levels up to `n` are final at `K`. Assumes nothing.
 use mathlib.Core.Path.{◌≡◌, sym, ◌∙◌, ap}
-use mathlib.Core.Logic.{◌⊎◌, inl, inr, ⊎_elim, by_cases}
+use mathlib.Core.Logic.{inl, inr, ⊎_elim, by_cases}
 use mathlib.Core.Bool.{So, ◌&&◌, cond}
 use Prim.Native.Nat.{ℕ, suc, ◌<◌, ◌≤◌}
 use native.Mathlib.Omega.{arith}

@@ -1,6 +1,6 @@
 -- A part that has all the rules for its own complete and closed atoms, inside a larger part: its runs are runs of the
 -- larger part. Assumes nothing.
-use mathlib.Core.Logic.{◌⊎◌, inl, inr, ⊎_elim}
+use mathlib.Core.Logic.{inl, inr, ⊎_elim}
 use Prim.Native.Nat.{ℕ}
 use Rattle.theory.specs.Answers.{Answers, Atoms}
 use Rattle.theory.specs.Rules.{Rules, Part, Derived, Refuted}
