@@ -1,4 +1,6 @@
 // The rule book: readers of its bytes.
+#![tactic(auto)]
+
 // the six tables, and their limits
 pub mod tables;
 // numbers in fewer bits, and in more

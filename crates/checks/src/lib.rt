@@ -1,4 +1,6 @@
 // The checks 1 to 12 of a rule book.
+#![tactic(auto)]
+
 // what a check answers
 pub mod verdict;
 // the larger of two numbers

@@ -17,7 +17,7 @@ use book::readers::count_of;
 use book::tables::{COMPARISONS, MOST_COMPARISONS};
 
 // What a check asks of the atoms that a rule uses: 9 their levels, 10 the signs, 11 whether they are certain.
-#[derive(Drop)]
+#[derive(Clone, Copy)]
 pub(crate) enum Aspect {
     Height,
     Sign,

@@ -17,7 +17,7 @@ use book::readers::count_of;
 use book::tables::{ATOMS, COMPARISONS, ELEMENTS, HYPOTHESES, PREDICATES};
 
 // What can be wrong with a record by itself: a code that is not listed, or an index that is not in its table.
-#[derive(Drop)]
+#[derive(Clone, Copy)]
 pub(crate) enum Fault {
     Unlisted,
     Stray,

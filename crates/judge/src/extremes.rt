@@ -19,7 +19,7 @@ use book::fields::{
 
 // What one reading of the elements finds: is there a definite one; is some definite weight equal to the bound, above
 // it, at least it; is every possible one unequal to it, below it, at most it.
-#[derive(Drop)]
+#[derive(Clone, Copy)]
 pub struct Extremes {
     pub definite: bool,
     pub equal: bool,

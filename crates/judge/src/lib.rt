@@ -1,4 +1,6 @@
 // The truth of literals, comparisons and rule bodies at the answers under work.
+#![tactic(auto)]
+
 pub mod body;
 pub mod comparison;
 pub mod elements;

@@ -1,4 +1,6 @@
 // Reads a book from standard input and prints its listing: one write of the whole text.
+#![tactic(auto)]
+
 mod input;
 mod list;
 mod text;

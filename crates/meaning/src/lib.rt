@@ -1,3 +1,2 @@
-#![tactic(auto)]
-
 // No code: the crate holds definitions and laws alone.
+#![tactic(auto)]

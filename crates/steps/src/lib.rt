@@ -1,4 +1,6 @@
 // The three steps of a level, and the round that takes them all at once.
+#![tactic(auto)]
+
 pub mod due;
 pub mod fails;
 pub mod gather;

@@ -10,8 +10,8 @@ returns : tie.Need-returns
 returns c =
     let placed = c.before in
     let called = placed.before.before in
-    let read = c.signed-at.ensures in
-    rw (reads_back {z = c.signed-at.result} (omega (arith, read)))
+    let read = c.signed_at.ensures in
+    rw (reads_back {z = c.signed_at.result} (omega (arith, read)))
     (element_weight _ _ _ _ placed.place.ensures called.requires.1 read.0, read.1)
 
 pub element_weight_spec : {M : Type 1} → statement M

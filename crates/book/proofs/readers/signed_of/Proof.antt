@@ -7,7 +7,7 @@ use Rattle.book.proofs.Complement.{small, turned_back}
 use Rattle.book.proofs.readers.signed_of.Statement.{statement}
 use Rattle.book.proofs.readers.signed_of.Tie as tie
 
-sub_result : tie.Need-overflow-sub-result
+sub_result : tie.Need-overflow_sub-result
 sub_result c =
     let x = c.args.x in
     rw (turned_back x c.requires) (fits (omega (arith, small x c.requires)))

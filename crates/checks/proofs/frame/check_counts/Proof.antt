@@ -6,15 +6,15 @@ use Rattle.checks.proofs.FrameLaws.{counts, many_at}
 use Rattle.checks.proofs.frame.check_counts.Statement.{statement}
 use Rattle.checks.proofs.frame.check_counts.Tie as tie
 
-abbrev invariant-loop : tie.invariant-loop
-invariant-loop book k₀ k = (k ≤ 6) × NoneTo (many_at book) k
+abbrev invariant-loop-k : tie.invariant-loop-k
+invariant-loop-k book k₀ k = (k ≤ 6) × NoneTo (many_at book) k
 
-abbrev decreases-loop : tie.decreases-loop
-decreases-loop book k₀ k = 6 - k
+abbrev decreases-loop-k : tie.decreases-loop-k
+decreases-loop-k book k₀ k = 6 - k
 
 pub check_counts_spec : {M : Type 1} → statement M
 check_counts_spec =
     tie.close
-    (tie.spec invariant-loop decreases-loop (λ c. search (rules, counts)) (λ c κs. search rules) (λ c κs. search rules)
+    (tie.spec invariant-loop-k decreases-loop-k (λ c. search (rules, counts)) (λ c κs. search rules) (λ c κs. search rules)
     (λ c. search rules) (λ c κs. search rules) (λ c. search (rules, counts)) (λ c. search rules)
     (λ c. search rules) (λ c. search (rules, counts)) (λ c. search (rules, counts)))

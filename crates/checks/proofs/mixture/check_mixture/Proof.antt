@@ -6,15 +6,15 @@ use Rattle.checks.proofs.MixtureLaws.{mixed_at, mixture}
 use Rattle.checks.proofs.mixture.check_mixture.Statement.{statement}
 use Rattle.checks.proofs.mixture.check_mixture.Tie as tie
 
-abbrev invariant-loop : tie.invariant-loop
-invariant-loop book n i₀ i = (i ≤ n) × NoneTo (mixed_at book) i
+abbrev invariant-loop-i : tie.invariant-loop-i
+invariant-loop-i book n i₀ i = (i ≤ n) × NoneTo (mixed_at book) i
 
-abbrev decreases-loop : tie.decreases-loop
-decreases-loop book n i₀ i = n - i
+abbrev decreases-loop-i : tie.decreases-loop-i
+decreases-loop-i book n i₀ i = n - i
 
 pub check_mixture_spec : {M : Type 1} → statement M
 check_mixture_spec =
     tie.close
-    (tie.spec invariant-loop decreases-loop (λ c κs. search rules) (λ c. search (rules, mixture)) (λ c κs. search rules)
+    (tie.spec invariant-loop-i decreases-loop-i (λ c κs. search rules) (λ c. search (rules, mixture)) (λ c κs. search rules)
     (λ c κs. search (rules, mixture)) (λ c. search (rules, mixture)) (λ c. search rules) (λ c. search rules)
     (λ c. search (rules, mixture)) (λ c. search (rules, mixture)))

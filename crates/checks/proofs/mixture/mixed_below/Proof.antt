@@ -7,14 +7,14 @@ use Rattle.checks.proofs.MixtureLaws.{below, mixed_with}
 use Rattle.checks.proofs.mixture.mixed_below.Statement.{statement}
 use Rattle.checks.proofs.mixture.mixed_below.Tie as tie
 
-abbrev invariant-loop : tie.invariant-loop
-invariant-loop book i j₀ j = (j ≤ i) × NoneTo (mixed_with book i) j
+abbrev invariant-loop-j : tie.invariant-loop-j
+invariant-loop-j book i j₀ j = (j ≤ i) × NoneTo (mixed_with book i) j
 
-abbrev decreases-loop : tie.decreases-loop
-decreases-loop book i j₀ j = i - j
+abbrev decreases-loop-j : tie.decreases-loop-j
+decreases-loop-j book i j₀ j = i - j
 
 pub mixed_below_spec : {M : Type 1} → statement M
 mixed_below_spec =
     tie.close
-    (tie.spec invariant-loop decreases-loop (λ c. search (rules, below)) (λ c κs. search rules) (λ c. search (rules, below))
+    (tie.spec invariant-loop-j decreases-loop-j (λ c. search (rules, below)) (λ c κs. search rules) (λ c. search (rules, below))
     (λ c. search rules) (λ c. search rules) (λ c. search (rules, below)) (λ c. search (rules, below)))

@@ -5,15 +5,15 @@ use Rattle.checks.proofs.BodyLaws.{PassedTo, onward}
 use Rattle.checks.proofs.records.check_bodies.Statement.{statement}
 use Rattle.checks.proofs.records.check_bodies.Tie as tie
 
-abbrev invariant-loop : tie.invariant-loop
-invariant-loop book fault k₀ k = (k ≤ 6) × PassedTo book fault k
+abbrev invariant-loop-k : tie.invariant-loop-k
+invariant-loop-k book fault k₀ k = (k ≤ 6) × PassedTo book fault k
 
-abbrev decreases-loop : tie.decreases-loop
-decreases-loop book fault k₀ k = 6 - k
+abbrev decreases-loop-k : tie.decreases-loop-k
+decreases-loop-k book fault k₀ k = 6 - k
 
 pub check_bodies_spec : {M : Type 1} → statement M
 check_bodies_spec =
     tie.close
-    (tie.spec invariant-loop decreases-loop (λ c. search (rules, onward)) (λ c κs. search rules) (λ c. search rules)
+    (tie.spec invariant-loop-k decreases-loop-k (λ c. search (rules, onward)) (λ c κs. search rules) (λ c. search rules)
     (λ c. search rules) (λ c. search (rules, onward)) (λ c. search rules) (λ c. search rules)
     (λ c. search (rules, onward)) (λ c. search (rules, onward)))

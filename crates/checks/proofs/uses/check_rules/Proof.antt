@@ -7,16 +7,16 @@ use Rattle.checks.proofs.RuleLaws.{ruled}
 use Rattle.checks.proofs.uses.check_rules.Statement.{statement}
 use Rattle.checks.proofs.uses.check_rules.Tie as tie
 
-abbrev invariant-loop : tie.invariant-loop
-invariant-loop book aspect found n r₀ r = (r ≤ n) × NoneTo (rule_fault book aspect) r
+abbrev invariant-loop-r : tie.invariant-loop-r
+invariant-loop-r book aspect found n r₀ r = (r ≤ n) × NoneTo (rule_fault book aspect) r
 
-abbrev decreases-loop : tie.decreases-loop
-decreases-loop book aspect found n r₀ r = n - r
+abbrev decreases-loop-r : tie.decreases-loop-r
+decreases-loop-r book aspect found n r₀ r = n - r
 
 pub check_rules_spec : {M : Type 1} → statement M
 check_rules_spec =
     tie.close
-    (tie.spec invariant-loop decreases-loop (λ c κs. search rules) (λ c κs. search rules) (λ c. search (rules, ruled))
+    (tie.spec invariant-loop-r decreases-loop-r (λ c κs. search rules) (λ c κs. search rules) (λ c. search (rules, ruled))
     (λ c. search rules) (λ c κs. search rules) (λ c κs. search rules) (λ c κs. search (rules, ruled))
     (λ c. search (rules, ruled)) (λ c. search rules) (λ c. search rules) (λ c. search (rules, ruled))
     (λ c. search (rules, ruled)))

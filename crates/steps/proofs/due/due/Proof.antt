@@ -5,15 +5,15 @@ use Rattle.steps.proofs.DueLaws.{DueTo, listing_dues}
 use Rattle.steps.proofs.due.due.Statement.{statement}
 use Rattle.steps.proofs.due.due.Tie as tie
 
-abbrev invariant-loop : tie.invariant-loop
-invariant-loop book answers level n steps₀ a₀ steps a = (a ≤ n) × DueTo book level answers steps a
+abbrev invariant-loop-a : tie.invariant-loop-a
+invariant-loop-a book answers level n steps₀ a₀ steps a = (a ≤ n) × DueTo book level answers steps a
 
-abbrev decreases-loop : tie.decreases-loop
-decreases-loop book answers level n steps₀ a₀ steps a = n - a
+abbrev decreases-loop-a : tie.decreases-loop-a
+decreases-loop-a book answers level n steps₀ a₀ steps a = n - a
 
 pub due_spec : {M : Type 1} → statement M
 due_spec =
     tie.close
-    (tie.spec invariant-loop decreases-loop (λ c. search (rules, listing_dues)) (λ c κs. search (rules, listing_dues))
+    (tie.spec invariant-loop-a decreases-loop-a (λ c. search (rules, listing_dues)) (λ c κs. search (rules, listing_dues))
     (λ c. search (rules, listing_dues)) (λ c. search (rules, listing_dues)) (λ c. search rules)
     (λ c. search (rules, listing_dues)) (λ c. search (rules, listing_dues)))

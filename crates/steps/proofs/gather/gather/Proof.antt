@@ -8,17 +8,17 @@ use Rattle.steps.proofs.GatherLaws.{gathering}
 use Rattle.steps.proofs.gather.gather.Statement.{statement}
 use Rattle.steps.proofs.gather.gather.Tie as tie
 
-abbrev invariant-loop : tie.invariant-loop
-invariant-loop book answers due m known₀ best₀ k₀ known best k =
+abbrev invariant-loop-k : tie.invariant-loop-k
+invariant-loop-k book answers due m known₀ best₀ k₀ known best k =
     (k ≤ m) × Asked book answers known × Gathered book answers due best k
 
-abbrev decreases-loop : tie.decreases-loop
-decreases-loop book answers due m known₀ best₀ k₀ known best k = m - k
+abbrev decreases-loop-k : tie.decreases-loop-k
+decreases-loop-k book answers due m known₀ best₀ k₀ known best k = m - k
 
 pub gather_spec : {M : Type 1} → statement M
 gather_spec =
     tie.close
-    (tie.spec invariant-loop decreases-loop (λ c κs. search rules) (λ c. search (rules, gathering)) (λ c. search rules)
+    (tie.spec invariant-loop-k decreases-loop-k (λ c κs. search rules) (λ c. search (rules, gathering)) (λ c. search rules)
     (λ c κs. search rules) (λ c. search (rules, gathering)) (λ c. search (rules, gathering))
     (λ c. search (rules, gathering)) (λ c κs. search (rules, gathering)) (λ c κs. search rules)
     (λ c. search (rules, gathering)) (λ c. search rules) (λ c. search (rules, gathering)) (λ c. search rules)

@@ -7,16 +7,16 @@ use Rattle.steps.proofs.StartLaws.{CountedTo, counted_more, counted_small, count
 use Rattle.steps.proofs.unfounded.assume.Statement.{statement}
 use Rattle.steps.proofs.unfounded.assume.Tie as tie
 
-abbrev invariant-loop : tie.invariant-loop
-invariant-loop book level answers due n assumed₀ left₀ a₀ assumed left a = (a ≤ n) × CountedTo answers due assumed left a
+abbrev invariant-loop-a : tie.invariant-loop-a
+invariant-loop-a book level answers due n assumed₀ left₀ a₀ assumed left a = (a ≤ n) × CountedTo answers due assumed left a
 
-abbrev decreases-loop : tie.decreases-loop
-decreases-loop book level answers due n assumed₀ left₀ a₀ assumed left a = n - a
+abbrev decreases-loop-a : tie.decreases-loop-a
+decreases-loop-a book level answers due n assumed₀ left₀ a₀ assumed left a = n - a
 
 pub assume_spec : {M : Type 1} → statement M
 assume_spec =
     tie.close
-    (tie.spec invariant-loop decreases-loop (λ c. search (rules, counting)) (λ c κs. search (rules, counting))
+    (tie.spec invariant-loop-a decreases-loop-a (λ c. search (rules, counting)) (λ c κs. search (rules, counting))
     (λ c. search (rules, counting)) (λ c. search (rules, counting))
     (λ c κs. (search (rules, counting), search (rules, answer_small), search (rules, due_undefined)))
     (λ c. search (rules, counting)) (λ c. search (rules, counting)) (λ c. search (rules, counting))
