@@ -10,15 +10,15 @@ use Rattle.engine.proofs.LevelLaws.{level_bare}
 use Rattle.engine.proofs.levels.busy.Statement.{statement}
 use Rattle.engine.proofs.levels.busy.Tie as tie
 
-abbrev invariant-loop : tie.invariant-loop
-invariant-loop book answers level n a₀ a = (a ≤ n) × (any_to (pending_in book level answers) a ≡ false)
+abbrev invariant-loop-a : tie.invariant-loop-a
+invariant-loop-a book answers level n a₀ a = (a ≤ n) × (any_to (pending_in book level answers) a ≡ false)
 
-abbrev decreases-loop : tie.decreases-loop
-decreases-loop book answers level n a₀ a = n - a
+abbrev decreases-loop-a : tie.decreases-loop-a
+decreases-loop-a book answers level n a₀ a = n - a
 
 pub busy_spec : {M : Type 1} → statement M
 busy_spec =
     tie.close
-    (tie.spec invariant-loop decreases-loop (λ c κs. search rules) (λ c. search (rules, level_bare)) (λ c κs. search rules)
+    (tie.spec invariant-loop-a decreases-loop-a (λ c κs. search rules) (λ c. search (rules, level_bare)) (λ c κs. search rules)
     (λ c. search (rules, looking)) (λ c κs. search rules) (λ c. search (rules, looking)) (λ c. search rules)
     (λ c. search rules) (λ c. search (rules, looking)) (λ c. search (rules, looking)))

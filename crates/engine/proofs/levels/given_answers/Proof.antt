@@ -6,16 +6,16 @@ use Rattle.engine.proofs.LevelLaws.{given_at, writing}
 use Rattle.engine.proofs.levels.given_answers.Statement.{statement}
 use Rattle.engine.proofs.levels.given_answers.Tie as tie
 
-abbrev invariant-loop : tie.invariant-loop
-invariant-loop book n now₀ a₀ now a = (a ≤ n) × Written (given_at book) now a
+abbrev invariant-loop-a : tie.invariant-loop-a
+invariant-loop-a book n now₀ a₀ now a = (a ≤ n) × Written (given_at book) now a
 
-abbrev decreases-loop : tie.decreases-loop
-decreases-loop book n now₀ a₀ now a = n - a
+abbrev decreases-loop-a : tie.decreases-loop-a
+decreases-loop-a book n now₀ a₀ now a = n - a
 
 pub given_answers_spec : {M : Type 1} → statement M
 given_answers_spec =
     tie.close
-    (tie.spec invariant-loop decreases-loop (λ c κs. search (rules, writing)) (λ c. search (rules, writing))
+    (tie.spec invariant-loop-a decreases-loop-a (λ c κs. search (rules, writing)) (λ c. search (rules, writing))
     (λ c. search (rules, writing)) (λ c κs. search (rules, writing)) (λ c κs. search (rules, writing))
     (λ c κs. search (rules, writing)) (λ c. search (rules, writing)) (λ c. search (rules, writing))
     (λ c. search (rules, writing)) (λ c. search (rules, writing)))

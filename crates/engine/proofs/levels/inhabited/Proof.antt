@@ -10,15 +10,15 @@ use Rattle.engine.proofs.LevelLaws.{levels}
 use Rattle.engine.proofs.levels.inhabited.Statement.{statement}
 use Rattle.engine.proofs.levels.inhabited.Tie as tie
 
-abbrev invariant-loop : tie.invariant-loop
-invariant-loop book level n p₀ p = (p ≤ n) × (any_to (level_is book level) p ≡ false)
+abbrev invariant-loop-p : tie.invariant-loop-p
+invariant-loop-p book level n p₀ p = (p ≤ n) × (any_to (level_is book level) p ≡ false)
 
-abbrev decreases-loop : tie.decreases-loop
-decreases-loop book level n p₀ p = n - p
+abbrev decreases-loop-p : tie.decreases-loop-p
+decreases-loop-p book level n p₀ p = n - p
 
 pub inhabited_spec : {M : Type 1} → statement M
 inhabited_spec =
     tie.close
-    (tie.spec invariant-loop decreases-loop (λ c κs. search rules) (λ c. search (rules, looking)) (λ c κs. search rules)
+    (tie.spec invariant-loop-p decreases-loop-p (λ c κs. search rules) (λ c. search (rules, looking)) (λ c κs. search rules)
     (λ c. search (rules, levels)) (λ c. search rules) (λ c. search rules) (λ c. search (rules, levels))
     (λ c. search (rules, looking)))

@@ -9,17 +9,17 @@ use Rattle.engine.proofs.RestLaws.{Turning, left, resting}
 use Rattle.engine.proofs.rounds.rounds.Statement.{statement}
 use Rattle.engine.proofs.rounds.rounds.Tie as tie
 
-abbrev invariant-loop : tie.invariant-loop
-invariant-loop book level order₀ n answers₀ more₀ order answers more =
+abbrev invariant-loop-more : tie.invariant-loop-more
+invariant-loop-more book level order₀ n answers₀ more₀ order answers more =
     (length order ≡ 2049) × Turning book level (take (atom_count book) answers₀) answers more
 
-abbrev decreases-loop : tie.decreases-loop
-decreases-loop book level order₀ n answers₀ more₀ order answers more = left book level answers more
+abbrev decreases-loop-more : tie.decreases-loop-more
+decreases-loop-more book level order₀ n answers₀ more₀ order answers more = left book level answers more
 
 pub rounds_spec : {M : Type 1} → statement M
 rounds_spec =
     tie.close
-    (tie.spec invariant-loop decreases-loop (λ c κs. search (rules, resting)) (λ c. search (rules, resting))
+    (tie.spec invariant-loop-more decreases-loop-more (λ c κs. search (rules, resting)) (λ c. search (rules, resting))
     (λ c. search (rules, resting)) (λ c. search (rules, resting)) (λ c κs. search (rules, resting))
     (λ c. search (rules, resting)) (λ c. search (rules, resting)) (λ c. search (rules, resting))
     (λ c. search (rules, resting)))

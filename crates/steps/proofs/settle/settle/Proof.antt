@@ -24,7 +24,7 @@ loop_again c =
     let turn = first.before.before in (
       search rules,
       settled_more _ _ _ _ _ _ _ _ _ _ _ _ turn.loop-a.invariant.1 (search (rules, settling)) first.answer-x.ensures
-          refl refl read.answer.ensures next.next_answer.ensures _ _ refl stored.set_answer.ensures,
+          refl refl read.answer.ensures next.next_answer-v.ensures _ _ refl stored.set_answer.ensures,
     )
 
 pub settle_spec : {M : Type 1} → statement M
