@@ -8,7 +8,7 @@ use native.Mathlib.Omega.{arith}
 use lib.ListN.{length, get_or}
 use borrow.Author.Tests.{le-ltb, lt-ltb}
 use Rattle.meaning.specs.Format.{atom_count, comparison_count, hypothesis_count, tables}
-use Rattle.meaning.specs.Reading.{hypothesis_in, hypothesis_of, is_certain}
+use Rattle.meaning.specs.Reading.{hypothesis_of, is_certain}
 use Rattle.meaning.specs.Refusal.{uses_of}
 use Rattle.book.specs.Framed.{Framed, Indexed}
 use Rattle.book.specs.Records as records

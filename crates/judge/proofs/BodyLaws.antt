@@ -14,7 +14,7 @@ use Rattle.laws.specs.Lists.{In}
 use Rattle.laws.proofs.Entries.{in_drop, in_get_or, in_take}
 use Rattle.theory.specs.Truth.{Truth}
 use Rattle.theory.specs.Answers.{Answers}
-use Rattle.meaning.specs.Format.{HypothesisRecord, atom_count, body, comparison_count, hypothesis_at, hypothesis_count}
+use Rattle.meaning.specs.Format.{HypothesisRecord, atom_count, comparison_count, hypothesis_at, hypothesis_count}
 use Rattle.meaning.specs.Format.{no_hypothesis, rule_count, tables}
 use Rattle.meaning.specs.Reading.{code_of, hypothesis_of, literal_of, range, rule_of, truth_of}
 use Rattle.meaning.specs.Reading as reading

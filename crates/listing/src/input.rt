@@ -1,7 +1,7 @@
 // Standard input, read into a buffer that the caller lends.
 ghost use Rattle.listing.specs.Within.{Within};
 
-use libc::STDIN_FILENO;
+use std::io::Read;
 
 // How many bytes were read, or that a read failed.
 #[derive(Drop)]
@@ -11,16 +11,14 @@ pub enum Input {
 }
 
 // Reads until the buffer is full, the input ends or a read fails.
-pub fn read_input(buf: &mut [u8]) -> Input
+pub fn read_input<R: Read>(reader: &mut R, buf: &mut [u8]) -> Input
     ensures { Within result buf.new }
 {
     let mut done = 0;
     while done < buf.len() {
-        let got = libc::read(STDIN_FILENO, &mut buf[done..]);
-        if got < 0 {
+        let Ok(more) = reader.read(&mut buf[done..]) else {
             return Input::Failed;
-        }
-        let more = io::count(got, &buf[done..]);
+        };
         if more == 0 {
             break;
         }

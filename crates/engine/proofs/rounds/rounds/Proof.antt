@@ -1,7 +1,6 @@
 -- `rounds::rounds` meets its contract: the rounds still to come lead where those from the start do, and each but the
 -- last lowers the number of undefined answers. Assumes nothing.
 use borrow.Author.Rules.{rules}
-use Prim.Native.Nat.{◌-◌}
 use mathlib.Core.Path.{◌≡◌}
 use lib.ListN.{length, take}
 use Rattle.meaning.specs.Format.{atom_count}

@@ -1,6 +1,5 @@
 -- `solve::work_level` meets its contract: a level is idle, or its rounds rest and it is closed. Assumes nothing.
 use borrow.Author.Rules.{rules}
-use Prim.Native.Nat.{◌-◌}
 use Rattle.engine.proofs.SolveLaws.{levelling}
 use Rattle.engine.proofs.solve.work_level.Statement.{statement}
 use Rattle.engine.proofs.solve.work_level.Tie as tie

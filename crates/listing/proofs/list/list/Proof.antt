@@ -5,10 +5,10 @@ use Rattle.listing.proofs.ListingLaws.{listed_answers, listed_refused, number_ac
 use Rattle.listing.proofs.list.list.Statement.{statement}
 use Rattle.listing.proofs.list.list.Tie as tie
 
-answered : tie.Need-returns
+answered : tie.Need-returns-then-number-eq0
 answered c = ((search rules, search put_count), (search (rules, listed_answers), search put_later))
 
-refused : tie.Need-returns-2
+refused : tie.Need-returns-else-number-eq0
 refused c = ((search rules, search put_count), (search (rules, listed_refused), search put_later))
 
 pub list_spec : {M : Type 1} → statement M

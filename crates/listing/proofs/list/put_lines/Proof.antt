@@ -8,15 +8,15 @@ use Rattle.listing.proofs.ListLaws.{lines}
 use Rattle.listing.proofs.list.put_lines.Statement.{statement}
 use Rattle.listing.proofs.list.put_lines.Tie as tie
 
-abbrev invariant-loop : tie.invariant-loop
-invariant-loop out₀ at room n end₀ i₀ out end i = (i ≤ n) × (end ≤ at + i * line_most) × Put out₀ at (lines_of room i) out end
+abbrev invariant-loop-i : tie.invariant-loop-i
+invariant-loop-i out₀ at room n end₀ i₀ out end i = (i ≤ n) × (end ≤ at + i * line_most) × Put out₀ at (lines_of room i) out end
 
-abbrev decreases-loop : tie.decreases-loop
-decreases-loop out₀ at room n end₀ i₀ out end i = n - i
+abbrev decreases-loop-i : tie.decreases-loop-i
+decreases-loop-i out₀ at room n end₀ i₀ out end i = n - i
 
 pub put_lines_spec : {M : Type 1} → statement M
 put_lines_spec =
     tie.close
-    (tie.spec invariant-loop decreases-loop (λ c. search (rules, lines)) (λ c. search rules) (λ c κs. search rules)
+    (tie.spec invariant-loop-i decreases-loop-i (λ c. search (rules, lines)) (λ c. search rules) (λ c κs. search rules)
     (λ c. search rules) (λ c κs. search rules) (λ c. search rules) (λ c. search (rules, lines)) (λ c. search rules)
     (λ c. search (rules, lines)))

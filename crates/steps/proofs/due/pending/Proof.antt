@@ -1,6 +1,5 @@
 -- `due::pending` meets its contract. Assumes nothing.
 use borrow.Author.Rules.{rules}
-use Prim.Native.Nat.{◌-◌}
 use Rattle.steps.proofs.DueLaws.{pends}
 use Rattle.steps.proofs.due.pending.Statement.{statement}
 use Rattle.steps.proofs.due.pending.Tie as tie

@@ -1,6 +1,5 @@
 -- `fails::fails` meets its contract, sort by sort. Assumes nothing.
 use borrow.Author.Rules.{rules}
-use Prim.Native.Nat.{◌-◌}
 use Rattle.steps.proofs.FailLaws.{failing}
 use Rattle.steps.proofs.fails.fails.Statement.{statement}
 use Rattle.steps.proofs.fails.fails.Tie as tie
