@@ -5,7 +5,10 @@ BUILD_SECOND := cargo build --quiet --release --offline --locked $(SECOND) --tar
 
 .PHONY: test beside library listing run host compare bench count
 
-# make test: every crate proved from nothing, every must-fail edit refused, and the tests below. The last line is rt ci's.
+# What a proof is made of: a crate's out/ is what the toolchain keeps of it.
+SOURCES := crates.txt $(shell find crates -name out -prune -o -type f -print)
+
+# make test: every crate proved, every must-fail edit refused, and the tests below. The last line is rt ci's.
 test:
 	@tests/all
 
@@ -22,16 +25,18 @@ beside:
 # make library: proves the engine and archives it, if a crate has changed.
 library: $(LIBRARY)
 
-$(LIBRARY): crates.txt $(shell find crates)
-	@mkdir -p target
-	@rt staticlib doughpillar > target/library.log 2>&1 || { cat target/library.log; exit 1; }
+$(LIBRARY): $(SOURCES)
+	@mkdir -p $(@D)
+	@cd crates/doughpillar && rt lib > $(CURDIR)/target/library.log 2>&1 || { cat $(CURDIR)/target/library.log; exit 1; }
+	@cp crates/doughpillar/out/libdoughpillar.a $@
 
 # make listing: proves the listing program and links it, if a crate has changed.
 listing: target/bin/listing
 
-target/bin/listing: crates.txt $(shell find crates)
-	@mkdir -p target
-	@rt check listing > target/listing.log 2>&1 || { cat target/listing.log; exit 1; }
+target/bin/listing: $(SOURCES)
+	@mkdir -p $(@D)
+	@cd crates/listing && rt run < /dev/null > $(CURDIR)/target/listing.log 2>&1 || { cat $(CURDIR)/target/listing.log; exit 1; }
+	@cp crates/listing/out/listing $@
 
 # make run BOOK=FILE NAMES=FILE: answers a book with the example host; NAMES, a name for each atom, may be left out.
 # Without BOOK it is the sample book. A refusal is an answer too, and no error of make's.
