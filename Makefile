@@ -6,7 +6,7 @@ BUILD_SECOND := cargo build --quiet --release --offline --locked $(SECOND) --tar
 .PHONY: test beside library listing run host compare bench count
 
 # What a proof is made of: a crate's out/ is what the toolchain keeps of it.
-SOURCES := crates.txt $(shell find crates -name out -prune -o -type f -print)
+SOURCES := crates.txt $(shell find crates -mindepth 2 -name out -prune -o -mindepth 2 -print)
 
 # make test: every crate proved, every must-fail edit refused, and the tests below. The last line is rt ci's.
 test:

@@ -45,7 +45,6 @@ pub fn put_place(out: &mut [u8], at: usize, table: u64, row: u64) -> usize
 }
 
 // The word for an answer.
-#[tactic(auto, using(crate::proofs::TextLaws::word))]
 fn put_word(out: &mut [u8], at: usize, answer: u8) -> usize
     requires { at + word_most ≤ length out.old }
     ensures { Put out.old at (word_of (truth_of answer)) out.new result × (result ≤ at + word_most) }

@@ -17,7 +17,7 @@ use Rattle.steps.specs.Work.{Exact, levels_in, rules_in}
 unfoldable pub candidate_in : List ℕ → ℕ → List ℕ → Atoms
 candidate_in b n A a = candidate (rules_in b) (levels_in b) n a (held A a)
 
--- 𝓛 is A with some candidates counted as false, and every unfounded set is among them
+-- W is A with some candidates counted as false, and every unfounded set is among them
 pub record Assumed (b : List ℕ) (n : ℕ) (A W : List ℕ) : Type 0 where
   pub long : length W ≡ 2048
   pub chosen : Atoms
@@ -71,7 +71,7 @@ pub record Searched (b : List ℕ) (n : ℕ) (A W K : List ℕ) (left : ℕ) : T
   pub waits : left ≡ waiting A W (atom_count b)
   pub known : Known b W K left
 
--- it is at 𝓛 with x left, after rule r was looked at from B with so many left: if no fewer are left, r does not strike
+-- it is at W with x left, after rule r was looked at from B with so many left: if no fewer are left, r does not strike
 pub record Struck (b : List ℕ) (n : ℕ) (A B W K : List ℕ) (r left x : ℕ) : Type 0 where
   pub searched : Searched b n A W K x
   pub fewer : x ≤ left
