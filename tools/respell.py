@@ -36,6 +36,8 @@ def plain(text):
 def declared():
     names = set()
     for path in files(".antt"):
+        if path.endswith(("/Answers.antt", "/Invariants.antt")):
+            continue  # the names there are Rattle's
         with open(path, encoding="utf-8") as f:
             text = plain(f.read())
         for line in text.split("\n"):
