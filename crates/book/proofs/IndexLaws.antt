@@ -8,7 +8,7 @@ use native.Mathlib.Omega.{arith}
 use lib.Dec.{leb, ltb}
 use lib.ListN.{length}
 use borrow.Author.Tests.{leb-false, ltb-false}
-use Rattle.laws.proofs.Tests.{either_fails}
+use Rattle.std.proofs.lemmas.Bool.{or_parts}
 use Rattle.meaning.specs.Format.{Tables, no_atom, no_comparison, no_element, no_hypothesis, no_rule, rule_count, tables}
 use Rattle.meaning.specs.Refusal.{refusal5, stray, stray_atom, stray_comparison, stray_element, stray_hypothesis, stray_rule}
 use Rattle.meaning.proofs.Absent.{clear_at, none_each}
@@ -39,7 +39,7 @@ indexed b e =
     let rule_fails : (r : ℕ) → r < rule_count b →
     (leb (length t.atoms) (rule_in b r).head ≡ false) ×
     (ltb (length t.hypotheses) ((rule_in b r).first + (rule_in b r).many) ≡ false) =
-    λ r l. either_fails _ _ (rule-clear r (omega (arith, l, rules_length b))) in
+    λ r l. or_parts _ _ (rule-clear r (omega (arith, l, rules_length b))) in
     record {
       atom = λ a l. rw (← n0) (leb-false _ _ (atom-clear a (omega (arith, l, n1))));
       head = λ r l. rw (← n1) (leb-false _ _ (rule_fails r l).0);

@@ -51,3 +51,6 @@ module _ (b : List ℕ) (k i o z : ℕ) (F : Framed b) (l : k < 6) (m : i < coun
   placed p =
       let e : o + z * i ≡ start b k + get_or sizes k 0 * i = rw (p, q, F.offsets k l) in
       record { is = e; fits = omega (arith, e, record_within b k i F l m) }
+
+-- for the proof of `Frame::place`
+pub ruleset placing = (product_fits, sum_fits, placed)

@@ -1,8 +1,15 @@
 -- The records of a book's tables, by their numbers. Assumes nothing.
 use Rattle.std.specs.Prelude.{List, ℕ, get_or}
-use Rattle.meaning.specs.Format.{Atom, ComparisonRecord, ElementRecord, HypothesisRecord, Predicate, RuleRecord, no_atom}
+use Rattle.meaning.specs.Format.{no_atom}
+use Rattle.meaning.specs.declared.records.Atom.{Atom}
+use Rattle.meaning.specs.declared.records.ComparisonRecord.{ComparisonRecord}
+use Rattle.meaning.specs.declared.records.ElementRecord.{ElementRecord}
+use Rattle.meaning.specs.declared.records.HypothesisRecord.{HypothesisRecord}
+use Rattle.meaning.specs.declared.records.Predicate.{Predicate}
+use Rattle.meaning.specs.declared.records.RuleRecord.{RuleRecord}
 use Rattle.meaning.specs.Format.{no_comparison, no_element, no_hypothesis, no_predicate, no_rule, tables}
-use Rattle.meaning.specs.Reading.{Comparison, Hypothesis, Kind, Rule, comparison_of, hypothesis_of, kind_at, level_at}
+use Rattle.meaning.specs.Reading.{Comparison, Hypothesis, Rule, comparison_of, hypothesis_of, kind_at, level_at}
+use Rattle.meaning.specs.declared.codes.Kind.{Kind}
 use Rattle.meaning.specs.Reading.{levels_of, reading, rule_of}
 
 -- record i of each table
@@ -34,10 +41,7 @@ hypothesis_read b h = hypothesis_of (tables b) (hypothesis_in b h).sort (hypothe
 abbrev pub comparison_read : List ℕ → ℕ → Comparison
 comparison_read b c = comparison_of (tables b) (comparison_in b c)
 
--- the code of atom a's kind, its kind and its level
-abbrev pub kind_code : List ℕ → ℕ → ℕ
-kind_code b a = (predicate_in b (atom_in b a).predicate).kind
-
+-- the kind of atom a, and its level
 abbrev pub kind_read : List ℕ → ℕ → Kind
 kind_read b a = kind_at (reading (tables b)).kinds a
 

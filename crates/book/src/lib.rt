@@ -3,11 +3,9 @@
 
 // the six tables, and their limits
 pub mod tables;
-// numbers in fewer bits, and in more
-pub mod casts;
-// numbers of a book, and where its records stand
+// numbers of a book, and its table of contents
 pub mod readers;
-// the fields of records
-pub mod fields;
-// kinds and levels of atoms
-pub mod atoms;
+// a book whose tables stand where they should, and its records
+pub mod frame;
+// a book whose indices are in their tables, and its atoms
+pub mod ready;

@@ -16,23 +16,10 @@ use mir.Val.{Fits}
 use Rattle.laws.specs.Lists.{seek}
 use Rattle.laws.proofs.Searches.{NoneTo, none_more, none_seek, none_start, seek_first, seek_none, table_rule}
 use Rattle.meaning.specs.Format.{contents, count_of, end, limits, offset_of, sizes, start}
-use Rattle.meaning.specs.Refusal.{astray, at_table, first_of, frame_refusals, misplaced, refusal1, refusal2, refusal3}
+use Rattle.meaning.specs.Refusal.{astray, at_table, misplaced, refusal1, refusal2, refusal3}
 use Rattle.meaning.specs.Refusal.{refuse, too_many}
 use Rattle.meaning.proofs.Absent.{none_each, none_if, none_table}
 use Rattle.book.specs.Framed.{Framed}
-use Rattle.checks.specs.Verdicts.{verdict_of}
-use Rattle.checks.specs.declared.verdict.Verdict.{Verdict}
-use Rattle.checks.specs.declared.verdict.Verdict.TheVariants.{Passed, Refused}
-use Rattle.checks.proofs.VerdictLaws.{passed_none}
-
--- 1
-pub short_refused : (b : List ℕ) → length b < contents → Refused 1 0 0 ≡ verdict_of (refusal1 b)
-unfolding refusal1
-short_refused b l = rw (lt-ltb (length b) 48 l)
-
-pub long_passed : (b : List ℕ) → contents ≤ length b → Passed ≡ verdict_of (refusal1 b)
-unfolding refusal1
-long_passed b l = rw (le-ltb (length b) 48 l)
 
 -- checks 2 and 3 at the k-th body
 unfoldable pub many_at : List ℕ → ℕ → Bool
@@ -43,7 +30,8 @@ astray_at b k = astray b k (get_or sizes k 0)
 
 -- a search over the tables that has come to the k-th without a fault
 module _ (f : ℕ → ℕ → Bool) (xs : List ℕ) (number k : ℕ) (clear : NoneTo (λ j. f j (get_or xs j 0)) k) where
-  at_table_lem : k < length xs → f k (get_or xs k 0) ≡ true → at_table number (seek f 0 xs) ≡ some (refuse number (k + 1) 0)
+  at_table_lem : k < length xs → f k (get_or xs k 0) ≡ true →
+      at_table number (seek f 0 xs) ≡ some (refuse number (k + 1) 0)
   unfolding NoneTo
   at_table_lem l t = rw (seek_first f 0 xs k l clear t, add-one)
 
@@ -53,17 +41,17 @@ module _ (f : ℕ → ℕ → Bool) (xs : List ℕ) (number k : ℕ) (clear : No
 
 -- 2
 module _ (b : List ℕ) (k : ℕ) where
-  pub count_within : (m n : ℕ) → m ≡ get_or limits k 0 → n ≡ count_of b k → n ≤ m → many_at b k ≡ false
+  pub count_within : count_of b k ≤ get_or limits k 0 → many_at b k ≡ false
   unfolding many_at
-  count_within m n p q l = le-ltb (get_or limits k 0) (count_of b k) (omega (arith, p, q, l))
+  count_within l = le-ltb (get_or limits k 0) (count_of b k) l
 
-  pub count_refused : (m n t : ℕ) → k < 6 → NoneTo (many_at b) k → m ≡ get_or limits k 0 → n ≡ count_of b k → m < n →
-      t ≡ k + 1 → Refused 2 t 0 ≡ verdict_of (refusal2 b)
+  pub count_refused : k < 6 → NoneTo (many_at b) k → get_or limits k 0 < count_of b k →
+      some (refuse 2 (k + 1) 0) ≡ refusal2 b
   unfolding refusal2 many_at
-  count_refused m n t l c p q g e =
-      rw (e, at_table_lem (too_many b) limits 2 k c l (lt-ltb (get_or limits k 0) (count_of b k) (omega (arith, p, q, g))))
+  count_refused l c g =
+      rw (at_table_lem (too_many b) limits 2 k c l (lt-ltb (get_or limits k 0) (count_of b k) g))
 
-  pub counts_passed : 6 ≤ k → NoneTo (many_at b) k → Passed ≡ verdict_of (refusal2 b)
+  pub counts_passed : 6 ≤ k → NoneTo (many_at b) k → none ≡ refusal2 b
   unfolding refusal2 many_at
   counts_passed l c = rw (at_none (too_many b) limits 2 k c l)
 
@@ -91,27 +79,27 @@ module _ (b : List ℕ) (k at z n : ℕ) (l : k < 6) (p : z ≡ get_or sizes k 0
   end_next e q = rw (add-one, e, p, q)
 
 module _ (b : List ℕ) (k at : ℕ) where
-  pub offset_right : (o : ℕ) → o ≡ offset_of b k → at ≡ start b k → o ≡ at → astray_at b k ≡ false
+  pub offset_right : offset_of b k ≡ at → at ≡ start b k → astray_at b k ≡ false
   unfolding astray_at
-  offset_right o p q e = ap not (eq-eqb (offset_of b k) (start b k) (sym p ∙ e ∙ q))
+  offset_right e q = ap not (eq-eqb (offset_of b k) (start b k) (e ∙ q))
 
-  pub offset_refused : (o t : ℕ) → k < 6 → NoneTo (astray_at b) k → o ≡ offset_of b k → at ≡ start b k →
-      (o ≡ at → ⊥) → t ≡ k + 1 → Refused 3 t 0 ≡ verdict_of (refusal3 b)
+  pub offset_refused : k < 6 → NoneTo (astray_at b) k → at ≡ start b k → (offset_of b k ≡ at → ⊥) →
+      some (refuse 3 (k + 1) 0) ≡ refusal3 b
   unfolding refusal3 astray_at
-  offset_refused o t l c p q n e =
-      rw (e, at_table_lem (astray b) sizes 3 k c l (ap not (ne_eqb (offset_of b k) (start b k) (λ z. n (p ∙ z ∙ sym q)))))
+  offset_refused l c q n =
+      rw (at_table_lem (astray b) sizes 3 k c l (ap not (ne_eqb (offset_of b k) (start b k) (λ z. n (z ∙ sym q)))))
 
   at_end : k ≤ 6 → 6 ≤ k → at ≡ start b k → at ≡ end b
   at_end l m q = let e : k ≡ 6 = omega (arith, l, m) in q ∙ ap (start b) e
 
   pub end_refused : k ≤ 6 → 6 ≤ k → NoneTo (astray_at b) k → at ≡ start b k → (length b ≡ at → ⊥) →
-      Refused 3 0 0 ≡ verdict_of (refusal3 b)
+      some (refuse 3 0 0) ≡ refusal3 b
   unfolding refusal3 astray_at
   end_refused l m c q n =
       rw (at_none (astray b) sizes 3 k c m, ne_eqb (length b) (end b) (λ z. n (z ∙ sym (at_end l m q))))
 
   pub offsets_passed : k ≤ 6 → 6 ≤ k → NoneTo (astray_at b) k → at ≡ start b k → length b ≡ at →
-      Passed ≡ verdict_of (refusal3 b)
+      none ≡ refusal3 b
   unfolding refusal3 astray_at
   offsets_passed l m c q n = rw (at_none (astray b) sizes 3 k c m, eq-eqb (length b) (end b) (n ∙ at_end l m q))
 
@@ -134,19 +122,18 @@ pub ruleset offsets = (
 )
 
 -- what the first check gives the next two
-pub passed_long : (b : List ℕ) (v : Verdict) → v ≡ verdict_of (refusal1 b) → v ≡ Passed → contents ≤ length b
+pub passed_long : (b : List ℕ) → none ≡ refusal1 b → contents ≤ length b
 unfolding refusal1
-passed_long b v p e = ltb-false (length b) 48 (none_if 1 (ltb (length b) 48) (passed_none (refusal1 b) v p e))
+passed_long b e = ltb-false (length b) 48 (none_if 1 (ltb (length b) 48) (sym e))
 
 -- a book with none of the refusals 1 to 3 is framed
-pub framed : (b : List ℕ) → first_of (frame_refusals b) ≡ none → Framed b
+pub framed : (b : List ℕ) → none ≡ refusal1 b → none ≡ refusal2 b → none ≡ refusal3 b → Framed b
 unfolding refusal1 refusal2 refusal3
-framed b e =
-    let (e1, (e2, (e3, _))) = none_each (frame_refusals b) e in
-    let (o, (l, _)) = none_each (misplaced b) e3 in
+framed b e1 e2 e3 =
+    let (o, (l, _)) = none_each (misplaced b) (sym e3) in
     record {
-      long = ltb-false (length b) 48 (none_if 1 (ltb (length b) 48) e1);
-      counts = λ k m. ltb-false (get_or limits k 0) (count_of b k) (clear 2 (too_many b) limits e2 k m);
+      long = ltb-false (length b) 48 (none_if 1 (ltb (length b) 48) (sym e1));
+      counts = λ k m. ltb-false (get_or limits k 0) (count_of b k) (clear 2 (too_many b) limits (sym e2) k m);
       offsets = λ k m. eqb-true (offset_of b k) (start b k) (not-false _ (clear 3 (astray b) sizes o k m));
       whole = eqb-true (length b) (end b) (not-false _ (none_if 3 _ l));
     }

@@ -1,12 +1,13 @@
 -- Laws of this crate, in reading order.
--- verdicts and chains of them
-pub mod VerdictLaws
+-- chains of refusals
+pub mod ChainLaws
 -- searches for the lowest record at fault
 pub mod LowestLaws
 -- checks 1 to 3
 pub mod FrameLaws
--- checks 4 and 5: a record, and the bodies
-pub mod RecordLaws
+-- what a check that passed gives
+pub mod CheckLaws
+-- checks 4 and 5
 pub mod BodyLaws
 -- check 6: what was compared, and the search
 pub mod SeenLaws
@@ -15,14 +16,10 @@ pub mod PairLaws
 pub mod GivenLaws
 -- check 8
 pub mod MixtureLaws
--- checks 9 to 11: which uses are positive
-pub mod SignLaws
--- how high uses reach, and the highest of a comparison
+-- checks 9 to 11: how high uses reach, and the highest of a comparison
 pub mod ReachLaws
 -- one hypothesis; one rule, and all of them
 pub mod HypothesisLaws
 pub mod RuleLaws
 -- a limit on the reach is what document 01 says
 pub mod LimitLaws
--- the chain of all twelve
-pub mod CheckLaws

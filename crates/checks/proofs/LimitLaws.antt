@@ -9,10 +9,12 @@ use native.Mathlib.Omega.{arith}
 use lib.Dec.{eqb, ltb}
 use lib.ListN.{length, get_or, length-map}
 use borrow.Author.Tests.{eqb-false, eqb-true, le-ltb, lt-ltb, ltb-false, ltb-true}
+use Rattle.std.proofs.lemmas.List.{get_or-map}
+use Rattle.std.proofs.Math.Bool.{and-false}
 use Rattle.laws.specs.Lists.{In, any}
-use Rattle.laws.proofs.Entries.{any_map, any_none, map_at_lem}
+use Rattle.laws.proofs.Entries.{any_map, any_none}
 use Rattle.laws.proofs.Numbers.{same_test}
-use Rattle.laws.proofs.Tests.{and_none, by-test}
+use Rattle.laws.proofs.Tests.{by-test}
 use Rattle.meaning.specs.Format.{no_rule, rule_count, tables}
 use Rattle.meaning.specs.Reading.{Rule, is_certain, levels_of, reading, rule_of}
 use Rattle.meaning.specs.Refusal.{lowest, own_non_positive, refusal10, refusal11, refusal9, uses, uses_higher}
@@ -21,8 +23,6 @@ use Rattle.meaning.proofs.Absent.{clear_at}
 use Rattle.book.specs.Records.{kind_read, level_read, rule_in, rule_read}
 use Rattle.book.proofs.Counts.{rules_length}
 use Rattle.checks.specs.Uses.{number_of, reach_of, rule_fault, rule_refusal}
-use Rattle.checks.specs.Verdicts.{verdict_of}
-use Rattle.checks.specs.declared.verdict.Verdict.{Verdict}
 use Rattle.checks.specs.declared.reaches.Aspect.{Aspect}
 use Rattle.checks.specs.declared.reaches.Aspect.TheVariants.{Certainty, Height, Sign}
 use Rattle.checks.proofs.LowestLaws.{lowest_is}
@@ -39,7 +39,7 @@ both_raised m n =
     (λ f. f ∙ sym (le-ltb (m + 1) (n + 1) (omega (arith, ltb-false m n f))))
 
 own_level_lem : (m n : ℕ) (p : Bool) → n ≤ m → (eqb m n && not p) ≡ ltb m (cond (not p) (n + 1) 0)
-own_level_lem m n true l = and_none (eqb m n) ∙ sym (le-ltb m 0 (omega arith))
+own_level_lem m n true l = and-false (eqb m n) ∙ sym (le-ltb m 0 (omega arith))
 own_level_lem m n false l =
     by-test (eqb m n) (λ t. rw t (sym (lt-ltb m (n + 1) (omega (arith, eqb-true m n t)))))
     (λ f. rw f (sym (le-ltb m (n + 1) (omega (arith, l, eqb-false m n f)))))
@@ -90,7 +90,7 @@ module _ (b : List ℕ) where
   unfolding reading
   read_at r l fault =
       let m : r < length (tables b).rules = omega (arith, l, rules_length b) in
-      ap (fault r) (map_at_lem (rule_of (tables b)) no_rule no_read (tables b).rules r m)
+      ap (fault r) (get_or-map (rule_of (tables b)) (tables b).rules r no_rule no_read m)
 
   read_length : length (reading (tables b)).rules ≡ rule_count b
   unfolding reading
@@ -104,26 +104,20 @@ module _ (b : List ℕ) where
       sym (lowest_is (number_of aspect) 3 fault (rule_fault b aspect) no_read (reading (tables b)).rules read_length
       (λ r l. read_at r l fault ∙ same r l)).is
 
-  module _ (v : Verdict) where
-    pub heights_verdict : v ≡ verdict_of (rule_refusal b Height) →
-        v ≡ verdict_of (refusal9 (reading (tables b)).rules (levels_of (tables b)))
-    unfolding refusal9
-    heights_verdict p =
-        p ∙ ap verdict_of (rules_are Height (uses_higher (levels_of (tables b))) (λ r l. heights_same b r))
+  pub heights_are : rule_refusal b Height ≡ refusal9 (reading (tables b)).rules (levels_of (tables b))
+  unfolding refusal9
+  heights_are = rules_are Height (uses_higher (levels_of (tables b))) (λ r l. heights_same b r)
 
-    pub signs_verdict : refusal9 (reading (tables b)).rules (levels_of (tables b)) ≡ none →
-        v ≡ verdict_of (rule_refusal b Sign) → v ≡ verdict_of (refusal10 (reading (tables b)) (levels_of (tables b)))
-    unfolding refusal9 refusal10
-    signs_verdict e p =
-        p ∙ ap verdict_of
-        (rules_are Sign (uses_non_positively (reading (tables b)).kinds (levels_of (tables b)))
-        (λ r l. signs_same b r
-        (sym (read_at r l (uses_higher (levels_of (tables b)))) ∙
-        clear_at 9 3 (uses_higher (levels_of (tables b))) no_read (reading (tables b)).rules e r
-        (omega (arith, l, read_length)))))
+  pub signs_are : refusal9 (reading (tables b)).rules (levels_of (tables b)) ≡ none →
+      rule_refusal b Sign ≡ refusal10 (reading (tables b)) (levels_of (tables b))
+  unfolding refusal9 refusal10
+  signs_are e =
+      rules_are Sign (uses_non_positively (reading (tables b)).kinds (levels_of (tables b)))
+      (λ r l. signs_same b r
+      (sym (read_at r l (uses_higher (levels_of (tables b)))) ∙
+      clear_at 9 3 (uses_higher (levels_of (tables b))) no_read (reading (tables b)).rules e r
+      (omega (arith, l, read_length))))
 
-    pub certainty_verdict : v ≡ verdict_of (rule_refusal b Certainty) → v ≡ verdict_of (refusal11 (reading (tables b)))
-    unfolding refusal11
-    certainty_verdict p =
-        p ∙ ap verdict_of
-        (rules_are Certainty (uses_uncertain (reading (tables b)).kinds) (λ r l. certainty_same b r))
+  pub certainty_are : rule_refusal b Certainty ≡ refusal11 (reading (tables b))
+  unfolding refusal11
+  certainty_are = rules_are Certainty (uses_uncertain (reading (tables b)).kinds) (λ r l. certainty_same b r)

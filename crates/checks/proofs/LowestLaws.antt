@@ -1,29 +1,16 @@
 -- The lowest record at fault: document 01's search through a table is one over numbers, and what its two ways out say.
 -- Checks 4 to 11 end by these laws. Assumes nothing.
-use mathlib.Core.Path.{◌≡◌, refl, sym, ap, ◌∙◌, subst}
+use mathlib.Core.Path.{◌≡◌, sym, ap, ◌∙◌, subst}
 use mathlib.Core.Bool.{Bool, true}
 use mathlib.Core.List.{List}
-use mathlib.Core.Option.{Option}
-use Prim.Native.Nat.{ℕ, ◌^◌, ◌<◌, ◌≤◌}
+use mathlib.Core.Option.{Option, none, some}
+use Prim.Native.Nat.{ℕ, ◌<◌, ◌≤◌}
 use native.Mathlib.Nat.{zero-add}
 use native.Mathlib.Omega.{arith}
-use lib.Dec.{leb}
 use lib.ListN.{length, get_or}
-use borrow.Author.Tests.{leb-true}
 use Rattle.laws.specs.Lists.{seek_from}
 use Rattle.laws.proofs.Searches.{NoneTo, none_next, none_start, numbers_first, numbers_none, seek_numbers, table_rule}
-use Rattle.meaning.specs.Format.{count_of, limits}
-use Rattle.meaning.specs.Refusal.{Refusal, at_record, lowest}
-use Rattle.book.specs.Framed.{Framed}
-use Rattle.checks.specs.Verdicts.{verdict_of}
-use Rattle.checks.specs.declared.verdict.Verdict.TheVariants.{Passed, Refused}
-
--- the number of a record has 16 bits
-limit_small : (k : ℕ) → k < 6 → get_or limits k 0 ≤ 4096
-limit_small k l = leb-true (get_or limits k 0) 4096 (table_rule (λ k x. leb x 4096) limits refl k l)
-
-pub record_short : (b : List ℕ) (k n i : ℕ) → Framed b → k < 6 → n ≡ count_of b k → i < n → i < 2 ^ 16
-record_short b k n i F l e m = omega (arith, F.counts k l, limit_small k l, e, m)
+use Rattle.meaning.specs.Refusal.{Refusal, at_record, lowest, refuse}
 
 -- what a refusal is: the lowest of m records at fault, if there is one
 pub record Seeks (o : Option Refusal) (number table : ℕ) (fault : ℕ → Bool) (m : ℕ) : Type 0 where
@@ -44,19 +31,18 @@ lowest_is number table f g d xs e same = record {
 -- where the search ends, having passed i of n records: at the next, or past the last. The answers are the code's.
 abbrev pub Found : Option Refusal → ℕ → ℕ → (ℕ → Bool) → ℕ → Type 0
 Found o number table fault m =
-    (n i : ℕ) (v : Bool) (x t r : ℕ) → n ≡ m → NoneTo fault i → i < n → v ≡ fault i → v ≡ true → x ≡ number →
-    t ≡ table → r ≡ i → Refused x t r ≡ verdict_of o
+    (n i : ℕ) (v : Bool) (r : Refusal) → n ≡ m → NoneTo fault i → i < n → v ≡ fault i → v ≡ true →
+    r ≡ refuse number table i → some r ≡ o
 
 abbrev pub Through : Option Refusal → (ℕ → Bool) → ℕ → Type 0
-Through o fault m = (n i : ℕ) → n ≡ m → NoneTo fault i → n ≤ i → Passed ≡ verdict_of o
+Through o fault m = (n i : ℕ) → n ≡ m → NoneTo fault i → n ≤ i → none ≡ o
 
 module _ {o : Option Refusal} {number table : ℕ} {fault : ℕ → Bool} {m : ℕ} (s : Seeks o number table fault m) where
   pub found : Found o number table fault m
-  found n i v x t r e clear l p q ex et er =
-      rw (ex, et, er, s.is, ← e, numbers_first fault i n clear l (sym p ∙ q))
+  found n i v r e clear l p q x = rw (x, s.is, ← e, numbers_first fault i n clear l (sym p ∙ q))
 
   pub through : Through o fault m
   through n i e clear l = rw (s.is, ← e, numbers_none fault i n clear l)
 
 -- the turns of such a search
-pub ruleset turns = (none_start, none_next, record_short)
+pub ruleset turns = (none_start, none_next)

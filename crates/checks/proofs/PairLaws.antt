@@ -1,29 +1,25 @@
 -- Check 6: the atoms of a comparison's elements by their places, and what the loops over elements and comparisons have
 -- passed. Assumes nothing.
 use mathlib.Core.Path.{◌≡◌, refl, sym, ap, ◌∙◌}
-use mathlib.Core.Logic.{⊎_elim}
 use mathlib.Core.Bool.{Bool, true, false, So}
 use mathlib.Core.List.{List, map}
+use mathlib.Core.Option.{some}
 use Prim.Native.Nat.{ℕ, ◌+◌, ◌-◌, ◌<◌, ◌≤◌}
-use native.Mathlib.Nat.{eq-or-lt_of_le}
 use native.Mathlib.Omega.{arith}
 use lib.ListN.{length, get_or, length-map}
 use lib.Seq.{length-slice, slice}
+use Rattle.std.proofs.lemmas.List.{get_or-map}
 use Rattle.laws.specs.Lists.{twice}
-use Rattle.laws.proofs.Entries.{map_at_lem}
 use Rattle.laws.proofs.Ranges.{slice_at}
-use Rattle.laws.proofs.Searches.{NoneTo, none_more}
+use Rattle.laws.proofs.Searches.{NoneTo}
 use Rattle.laws.proofs.Twice.{pair_twice, twice_none}
+use Rattle.meaning.specs.declared.records.ComparisonRecord.{ComparisonRecord}
 use Rattle.meaning.specs.Format.{comparison_count, element_count, no_comparison, no_element, tables}
 use Rattle.meaning.specs.Reading.{elements_of}
-use Rattle.meaning.specs.Refusal.{element_atom, refusal6, repeats}
-use Rattle.book.specs.Framed.{Framed, Indexed}
+use Rattle.meaning.specs.Refusal.{element_atom, refusal6, refuse, repeats}
 use Rattle.book.specs.Records.{comparison_in, element_in}
-use Rattle.checks.specs.Verdicts.{verdict_of}
-use Rattle.checks.specs.declared.verdict.Verdict.TheVariants.{Refused}
 use Rattle.book.proofs.Counts.{comparisons_length, elements_length}
-use Rattle.checks.proofs.LowestLaws.{Seeks, Through, found, lowest_is, through, turns}
-use Rattle.checks.proofs.SeenLaws.{Apart, same_atom}
+use Rattle.checks.proofs.LowestLaws.{Seeks, Through, found, lowest_is, through}
 
 -- check 6 at a comparison
 unfoldable pub repeats_at : List ℕ → ℕ → Bool
@@ -36,29 +32,6 @@ pub record Clear (b : List ℕ) (f e i : ℕ) : Type 0 where
   pub within : e ≤ element_count b
   pub room : e ≤ 4096
   pub other : (x y : ℕ) → f ≤ x → x < i → x < y → y < e → (element_in b x).atom ≡ (element_in b y).atom → ⊥
-
-module _ (b : List ℕ) where
-  pub clear_none : (f m : ℕ) → f + m ≤ element_count b → Framed b → Clear b f (f + m) f
-  clear_none f m w F =
-      record {
-        least = omega arith;
-        most = omega arith;
-        within = w;
-        room = omega (arith, F.counts 5 (omega arith));
-        other = λ x y k l o p q. omega (arith, k, l);
-      }
-
-  pub clear_more : (f e i j : ℕ) → Clear b f e i → i < e → Apart b i j → e ≤ j → Clear b f e (i + 1)
-  clear_more f e i j c l a g =
-      record {
-        least = omega arith;
-        most = omega arith;
-        within = c.within;
-        room = c.room;
-        other = λ x y k m o p q.
-            ⊎_elim (λ z. a.other y (omega (arith, z, o)) (omega (arith, p)) (same_atom b i x (sym z) ∙ q))
-            (λ z. c.other x y k z o p q) (eq-or-lt_of_le {n = x} {m = i} (omega (arith, m)));
-      }
 
 -- the atoms of the elements from f up to e, by their places
 abbrev atoms_in : List ℕ → ℕ → ℕ → List ℕ
@@ -74,7 +47,7 @@ module _ (b : List ℕ) (f e : ℕ) (within : e ≤ element_count b) where
   atoms_at : (k i : ℕ) → f + k ≡ i → i < e → get_or (atoms_in b f e) k 0 ≡ (element_in b i).atom
   atoms_at k i q l =
       let xs = (tables b).elements in
-      map_at_lem element_atom no_element 0 (slice f e xs) k (omega (arith, part_length)) ∙
+      get_or-map element_atom (slice f e xs) k no_element 0 (omega (arith, part_length)) ∙
       ap element_atom (slice_at no_element xs f e k (omega arith) ∙ ap (λ (j : ℕ). element_in b j) q)
 
   atoms_clear : ((x y : ℕ) → f ≤ x → x < y → y < e → (element_in b x).atom ≡ (element_in b y).atom → ⊥) →
@@ -91,22 +64,19 @@ module _ (b : List ℕ) (f e : ℕ) (within : e ≤ element_count b) where
       pair_twice (atoms_in b f e) (i - f) (j - f) (omega arith) (omega (arith, atoms_length))
       (atoms_at (i - f) i (omega arith) (omega arith) ∙ q ∙ sym (atoms_at (j - f) j (omega arith) m))
 
--- a comparison whose elements run from f, m of them
-module _ (b : List ℕ) (c f m : ℕ) (p : f ≡ (comparison_in b c).first) (q : m ≡ (comparison_in b c).many) where
-  pub ends_within : (n : ℕ) → Indexed b → n ≡ comparison_count b → c < n → f + m ≤ element_count b
-  ends_within n I e l = omega (arith, I.comparison c (omega arith))
-
-  pub comparison_clear : (i : ℕ) → Clear b f (f + m) i → f + m ≤ i → repeats_at b c ≡ false
+-- comparison c, as it was read
+module _ (b : List ℕ) (c : ℕ) (x : ComparisonRecord) (p : x ≡ comparison_in b c) where
+  pub comparison_clear : (i : ℕ) → Clear b x.first (x.first + x.many) i → x.first + x.many ≤ i → repeats_at b c ≡ false
   unfolding repeats_at elements_of
   comparison_clear i h g =
-      rw (← p, ← q)
-      (atoms_clear b f (f + m) h.within (λ x y k l o e. h.other x y k (omega (arith, l, o)) l o e))
+      rw (← p)
+      (atoms_clear b x.first (x.first + x.many) h.within (λ y z k l o e. h.other y z k (omega (arith, l, o)) l o e))
 
-  pub comparison_pair : (i j a x : ℕ) → Clear b f (f + m) i → i < j → j < f + m → a ≡ (element_in b i).atom →
-      x ≡ (element_in b j).atom → x ≡ a → true ≡ repeats_at b c
+  pub comparison_pair : (i j : ℕ) → Clear b x.first (x.first + x.many) i → i < j → j < x.first + x.many →
+      (element_in b i).atom ≡ (element_in b j).atom → true ≡ repeats_at b c
   unfolding repeats_at elements_of
-  comparison_pair i j a x h k g s t u =
-      rw (← p, ← q) (sym (atoms_pair b f (f + m) h.within i j h.least k g (sym s ∙ sym u ∙ t)))
+  comparison_pair i j h k g e =
+      rw (← p) (sym (atoms_pair b x.first (x.first + x.many) h.within i j h.least k g e))
 
 -- the search through the comparisons
 pairs_seek : (b : List ℕ) → Seeks (refusal6 (tables b)) 6 5 (repeats_at b) (comparison_count b)
@@ -115,14 +85,9 @@ pairs_seek b =
     lowest_is 6 5 (repeats (tables b)) (repeats_at b) no_comparison (tables b).comparisons (comparisons_length b)
     (λ i l. refl)
 
-pub pairs_found : (b : List ℕ) (n c r : ℕ) → n ≡ comparison_count b → NoneTo (repeats_at b) c → c < n →
-    true ≡ repeats_at b c → r ≡ c → Refused 6 5 r ≡ verdict_of (refusal6 (tables b))
-pairs_found b n c r e clear l p q = found (pairs_seek b) n c true 6 5 r e clear l p refl refl refl q
+pub pairs_found : (b : List ℕ) (n c : ℕ) → n ≡ comparison_count b → NoneTo (repeats_at b) c → c < n →
+    true ≡ repeats_at b c → some (refuse 6 5 c) ≡ refusal6 (tables b)
+pairs_found b n c e clear l p = found (pairs_seek b) n c true (refuse 6 5 c) e clear l p refl refl
 
 pub pairs_through : (b : List ℕ) → Through (refusal6 (tables b)) (repeats_at b) (comparison_count b)
 pairs_through b = through (pairs_seek b)
-
--- for the loop over elements, and for that over comparisons with its two ways out
-pub ruleset elements = (ends_within, clear_none, clear_more)
-
-pub ruleset comparisons = (turns, none_more, comparison_clear, comparison_pair, pairs_found, pairs_through)

@@ -1,6 +1,6 @@
 -- What the contracts of this crate say beside document 01's definitions.
--- what a check answers
-pub mod Verdicts
+-- what a refusal of the code says
+pub mod Refused
 -- checks 4 and 5, table by table
 pub mod Faults
 -- check 7, by the marked heads of rules

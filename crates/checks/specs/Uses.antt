@@ -1,12 +1,14 @@
 -- Checks 9 to 11 as one comparison of numbers. A use that the check looks at reaches the level above its atom's, any
 -- other 0; a rule is at fault if one of its uses reaches above the limit that its head sets. In check 10 this is what
 -- document 01 says once 9 has passed: no atom that a rule uses is then above its head's level. Assumes nothing.
-use Rattle.std.specs.Prelude.{◌≡◌, Bool, true, cond, not, ◌&&◌, List, [], ◌∷◌, ℕ, ◌+◌, ◌<◌, max, eqb, ltb, length, get_or}
+use Rattle.std.specs.Prelude.{◌≡◌, Bool, true, cond, not, ◌&&◌, List, [], ◌∷◌, ℕ, ◌+◌, ◌<◌, max, eqb, ltb}
+use Rattle.std.specs.Prelude.{length, get_or}
 use Rattle.std.proofs.Math.Option.{Option}
 use Rattle.laws.specs.Lists.{any, seek_from}
-use Rattle.meaning.specs.Format.{ElementRecord, rule_count}
+use Rattle.meaning.specs.Format.{rule_count}
+use Rattle.meaning.specs.declared.records.ElementRecord.{ElementRecord}
 use Rattle.meaning.specs.Reading.{Hypothesis, is_certain}
-use Rattle.meaning.specs.Refusal.{Refusal, Use, at_record, uses, uses_of}
+use Rattle.meaning.specs.Refusal.{Refusal, Use, at_record, refuse, uses, uses_of}
 use Rattle.book.specs.Records.{comparison_read, hypothesis_read, kind_read, level_read, rule_in, rule_read}
 use Rattle.checks.specs.declared.reaches.Aspect.{Aspect}
 use Rattle.checks.specs.declared.reaches.Aspect.TheVariants.{Certainty, Height, Sign}
@@ -15,6 +17,10 @@ abbrev pub number_of : Aspect → ℕ
 number_of Height = 9
 number_of Sign = 10
 number_of Certainty = 11
+
+-- the refusal of a rule
+abbrev pub said_of : Aspect → ℕ → Refusal
+said_of aspect rule = refuse (number_of aspect) 3 rule
 
 -- 9 looks at every use, 10 at the non-positive ones, 11 at those of uncertain atoms
 abbrev pub looks_at : List ℕ → Aspect → Use → Bool

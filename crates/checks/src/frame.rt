@@ -1,17 +1,17 @@
 // Checks 1 to 3: length, counts and offsets. A book that passes them is framed.
-ghost use Rattle.std.specs.Prelude.{◌≡◌, ◌<◌, ◌≤◌, length, get_or};
+ghost use Rattle.std.specs.Prelude.{◌≡◌, ◌<◌, ◌≤◌, length, get_or, IfOk};
 ghost use Rattle.meaning.specs.Format.{contents, limits};
-ghost use Rattle.meaning.specs.Refusal.{frame_refusals, refusal1, refusal2, refusal3};
-ghost use Rattle.checks.specs.Verdicts.{verdict_among, verdict_of};
+ghost use Rattle.meaning.specs.Refusal.{first_of, frame_refusals, refusal1, refusal2, refusal3};
+ghost use Rattle.checks.specs.Refused.{refused};
 
-use crate::verdict::Verdict;
-use book::casts::narrow;
+use crate::refusal::Refusal;
+use book::frame::Frame;
 use book::readers::{count_of, offset_of, size_of};
 use book::tables::{
     MOST_ATOMS, MOST_COMPARISONS, MOST_ELEMENTS, MOST_HYPOTHESES, MOST_PREDICATES, MOST_RULES,
 };
 
-// Most records of the tables 1 to 6.
+// Most records of the tables 1 to 6. Document 01 names the form: a constant table, and one loop over it.
 const LIMITS: [usize; 6] = [
     MOST_PREDICATES,
     MOST_ATOMS,
@@ -29,77 +29,56 @@ fn limit_of(k: usize) -> usize
 }
 
 // 1: fewer than 48 bytes.
-fn check_length(book: &[u8]) -> Verdict
-    ensures { result ≡ verdict_of (refusal1 book.now) }
+#[tactic(auto, unfolding(meaning::specs::Refusal::refusal1))]
+fn check_length(bytes: &[u8]) -> Result<(), Refusal>
+    ensures { refused result ≡ refusal1 bytes.now }
 {
-    if book.len() < 48 {
-        return Verdict::Refused {
-            number: 1,
-            table: 0,
-            record: 0,
-        };
+    if bytes.len() < 48 {
+        return Err(Refusal::Length);
     }
-    Verdict::Passed
+    Ok(())
 }
 
 // 2: a count above its limit.
-fn check_counts(book: &[u8]) -> Verdict
-    requires { contents ≤ length book.now }
-    ensures { result ≡ verdict_of (refusal2 book.now) }
+#[tactic(auto, using(crate::proofs::FrameLaws::counts))]
+fn check_counts(bytes: &[u8]) -> Result<(), Refusal>
+    requires { contents ≤ length bytes.now }
+    ensures { refused result ≡ refusal2 bytes.now }
 {
-    let mut k = 0;
-    while k < 6 {
-        if limit_of(k) < count_of(book, k) {
-            return Verdict::Refused {
-                number: 2,
-                table: narrow(k + 1),
-                record: 0,
-            };
+    for k in 0..6 {
+        if limit_of(k) < count_of(bytes, k) {
+            return Err(Refusal::Count { table: k as u8 + 1 });
         }
-        k += 1;
     }
-    Verdict::Passed
+    Ok(())
 }
 
 // 3: an offset that is not where the body before ended; then a length that is not the end.
-fn check_offsets(book: &[u8]) -> Verdict
-    requires { contents ≤ length book.now }
-    ensures { result ≡ verdict_of (refusal3 book.now) }
+#[tactic(auto, using(crate::proofs::FrameLaws::offsets))]
+fn check_offsets(bytes: &[u8]) -> Result<(), Refusal>
+    requires { contents ≤ length bytes.now }
+    ensures { refused result ≡ refusal3 bytes.now }
 {
     let mut at = 48;
-    let mut k = 0;
-    while k < 6 {
-        if offset_of(book, k) != at {
-            return Verdict::Refused {
-                number: 3,
-                table: narrow(k + 1),
-                record: 0,
-            };
+    for k in 0..6 {
+        if offset_of(bytes, k) != at {
+            return Err(Refusal::Offset { table: k as u8 + 1 });
         }
-        at += size_of(k) * count_of(book, k);
-        k += 1;
+        at += size_of(k) * count_of(bytes, k);
     }
-    if book.len() != at {
-        return Verdict::Refused {
-            number: 3,
-            table: 0,
-            record: 0,
-        };
+    if bytes.len() != at {
+        return Err(Refusal::Offset { table: 0 });
     }
-    Verdict::Passed
+    Ok(())
 }
 
 // The three in their order.
-pub(crate) fn check_frame(book: &[u8]) -> Verdict
-    ensures { result ≡ verdict_among (frame_refusals book.now) }
+pub(crate) fn check_frame<'a>(bytes: &'a [u8]) -> Result<Frame<'a>, Refusal>
+    ensures refusal { refused result ≡ first_of (frame_refusals bytes.now) }
+    ensures same { IfOk result (λ frame. frame.bytes.now ≡ bytes.now) }
 {
-    let length = check_length(book);
-    let Verdict::Passed = length else {
-        return length;
-    };
-    let counts = check_counts(book);
-    let Verdict::Passed = counts else {
-        return counts;
-    };
-    check_offsets(book)
+    check_length(bytes)?;
+    check_counts(bytes)?;
+    check_offsets(bytes)?;
+    Ok(Frame { bytes })
 }

@@ -1,10 +1,8 @@
 // The checks 1 to 12 of a rule book.
 #![tactic(auto)]
 
-// what a check answers
-pub mod verdict;
-// the larger of two numbers
-mod numbers;
+// why a book is refused
+pub mod refusal;
 // checks 1 to 3: length, counts and offsets
 mod frame;
 // checks 4 and 5: codes and indices
@@ -17,7 +15,7 @@ mod given;
 mod mixture;
 // checks 9 to 11: which elements a comparison uses positively
 mod signs;
-// checks 9 to 11: how high uses reach, and the highest of each comparison
+// checks 9 to 11: how high uses reach
 mod reaches;
 // checks 9 to 11: each rule against the limit of its head
 mod uses;

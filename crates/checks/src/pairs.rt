@@ -3,48 +3,35 @@
 ghost use Rattle.std.specs.Prelude.{◌≡◌};
 ghost use Rattle.meaning.specs.Format.{tables};
 ghost use Rattle.meaning.specs.Refusal.{refusal6};
-ghost use Rattle.book.specs.Framed.{Ready};
-ghost use Rattle.checks.specs.Verdicts.{verdict_of};
+ghost use Rattle.checks.specs.Refused.{refused};
 
-use crate::numbers::larger;
-use crate::verdict::Verdict;
-use book::casts::{short, wide};
-use book::fields::{comparison_first, comparison_many, element_atom};
-use book::readers::count_of;
+use crate::refusal::Refusal;
+use book::ready::Book;
 use book::tables::{COMPARISONS, MOST_ELEMENTS};
 
-// 6: comparisons, elements and later elements, left at the first pair. The comparison reached is then the place.
-pub(crate) fn check_pairs(book: &[u8]) -> Verdict
-    requires { Ready book.now }
-    ensures { result ≡ verdict_of (refusal6 (tables book.now)) }
+// 6: comparisons, elements and later elements, left with the place at the first pair. Document 01 names the form:
+// labelled loops, one within another.
+pub(crate) fn check_pairs(book: &Book) -> Result<(), Refusal>
+    ensures { refused result ≡ refusal6 (tables book.now.frame.bytes.now) }
 {
-    let n = count_of(book, COMPARISONS);
     let mut seen = [0u16; MOST_ELEMENTS];
-    let mut c = 0;
-    'comparisons: while c < n {
-        let first = comparison_first(book, c);
-        let end = first + comparison_many(book, c);
-        let mut i = first;
-        while i < end {
-            let atom = element_atom(book, i);
-            let mut j = larger(i + 1, wide(seen[i]));
-            while j < end {
-                if element_atom(book, j) == atom {
+    let mut outcome = Ok(());
+    'comparisons: for c in 0..book.frame.count(COMPARISONS) {
+        let comparison = book.frame.comparison(c);
+        let end = comparison.first + comparison.many;
+        for i in comparison.first..end {
+            let atom = book.frame.element(i).atom;
+            let next = usize::from(seen[i]).max(i + 1);
+            for j in next..end {
+                if book.frame.element(j).atom == atom {
+                    outcome = Err(Refusal::Pair {
+                        comparison: c as u16,
+                    });
                     break 'comparisons;
                 }
-                j += 1;
             }
-            seen[i] = short(j);
-            i += 1;
+            seen[i] = next.max(end) as u16;
         }
-        c += 1;
     }
-    if c < n {
-        return Verdict::Refused {
-            number: 6,
-            table: 5,
-            record: short(c),
-        };
-    }
-    Verdict::Passed
+    outcome
 }

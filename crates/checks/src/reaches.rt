@@ -1,97 +1,127 @@
-// Checks 9 to 11: how high a use reaches, and the highest use of a comparison, found once for all rules that name it.
+// Checks 9 to 11: how high a use reaches, and the highest use of a comparison.
 ghost use Rattle.std.specs.Prelude.{◌≡◌, ◌<◌, ◌≤◌};
 ghost use Rattle.meaning.specs.Format.{atom_count, comparison_count, element_count};
-ghost use Rattle.book.specs.Framed.{Ready};
 ghost use Rattle.book.specs.Records.{element_in};
-ghost use Rattle.checks.specs.Uses.{Reaches, comparison_reach, looks_at, reach_of, used_as};
+ghost use Rattle.checks.specs.Uses.{asks_of, comparison_reach, limit_of, looks_at, reach_of, said_of, used_as};
+ghost use Rattle.checks.specs.Refused.{said};
 
-use crate::numbers::larger;
+use crate::refusal::Refusal;
 use crate::signs::{grows_in, shrinks_in};
-use book::atoms::{is_certain, level_of};
-use book::casts::short;
-use book::fields::{
-    comparison_aggregate, comparison_first, comparison_many, comparison_relation, element_atom,
-    element_sign,
-};
-use book::readers::count_of;
-use book::tables::{COMPARISONS, MOST_COMPARISONS};
+use book::ready::Book;
+use meaning::codes::{Aggregate, Literal, Relation};
 
-// What a check asks of the atoms that a rule uses: 9 their levels, 10 the signs, 11 whether they are certain.
-#[derive(Clone, Copy)]
+// What a check asks of the atoms that a rule uses: 9 their levels, 10 the signs, 11 whether they are certain. It stays
+// an enum: a check is four answers (what it looks at, which heads it asks of, what it allows and what it refuses), and
+// four closures for each of the three would be no plainer than these four short matches.
+#[derive(Clone, Copy, PartialEq, Eq)]
 pub(crate) enum Aspect {
     Height,
     Sign,
     Certainty,
 }
 
-// Does the check look at this use?
-fn looks_at(book: &[u8], aspect: Aspect, atom: usize, positive: bool) -> bool
-    requires { let b = book.now in Ready b × (atom < atom_count b) }
-    ensures { result ≡ looks_at book.now aspect (record { atom = atom; positive = positive }) }
-{
-    match aspect {
-        Aspect::Height => true,
-        Aspect::Sign => !positive,
-        Aspect::Certainty => !is_certain(book, atom),
+impl Aspect {
+    // The refusal of a rule at fault.
+    pub(crate) fn refusal(self, rule: u16) -> Refusal
+        ensures { said result ≡ said_of self rule }
+    {
+        match self {
+            Aspect::Height => Refusal::Height { rule },
+            Aspect::Sign => Refusal::Sign { rule },
+            Aspect::Certainty => Refusal::Certainty { rule },
+        }
     }
 }
 
-// The level above the atom's if it does, else 0.
-pub(crate) fn use_reach(book: &[u8], aspect: Aspect, atom: usize, positive: bool) -> usize
-    requires { let b = book.now in Ready b × (atom < atom_count b) }
-    ensures { (result ≡ reach_of book.now aspect (record { atom = atom; positive = positive }))
-        × (result ≤ 256) }
-{
-    if looks_at(book, aspect, atom, positive) {
-        return level_of(book, atom) + 1;
-    }
-    0
+// A book, as one of the three checks looks at it.
+#[derive(Clone, Copy)]
+pub(crate) struct View<'a> {
+    pub(crate) book: Book<'a>,
+    pub(crate) aspect: Aspect,
 }
 
-// The same of element e, by whether sign 0 and sign 1 are positive.
-fn element_reach(book: &[u8], aspect: Aspect, plain: bool, negated: bool, e: usize) -> usize
-    requires { let b = book.now in Ready b × (e < element_count b) }
-    ensures { let b = book.now in
-        (result ≡ reach_of b aspect (used_as plain negated (element_in b e))) × (result ≤ 256) }
-{
-    let atom = element_atom(book, e);
-    if element_sign(book, e) == 0 {
-        return use_reach(book, aspect, atom, plain);
+impl<'a> View<'a> {
+    // Does the check look at this use?
+    fn looks_at(&self, atom: usize, positive: bool) -> bool
+        requires { atom < atom_count self.now.book.frame.bytes.now }
+        ensures { result ≡ looks_at self.now.book.frame.bytes.now self.now.aspect
+            (record { atom = atom; positive = positive }) }
+    {
+        match self.aspect {
+            Aspect::Height => true,
+            Aspect::Sign => !positive,
+            Aspect::Certainty => !self.book.is_certain(atom),
+        }
     }
-    use_reach(book, aspect, atom, negated)
-}
 
-// The highest of comparison c.
-fn comparison_reach(book: &[u8], aspect: Aspect, c: usize) -> usize
-    requires { let b = book.now in Ready b × (c < comparison_count b) }
-    ensures { (result ≡ comparison_reach book.now aspect c) × (result ≤ 256) }
-{
-    let aggregate = comparison_aggregate(book, c);
-    let relation = comparison_relation(book, c);
-    let plain = grows_in(aggregate, relation);
-    let negated = shrinks_in(aggregate, relation);
-    let first = comparison_first(book, c);
-    let end = first + comparison_many(book, c);
-    let mut reach = 0;
-    let mut e = first;
-    while e < end {
-        reach = larger(reach, element_reach(book, aspect, plain, negated, e));
-        e += 1;
+    // The level above the atom's if it does, else 0.
+    #[tactic(auto, unfolding(crate::specs::Uses::reach_of))]
+    pub(crate) fn use_reach(&self, atom: usize, positive: bool) -> usize
+        requires { atom < atom_count self.now.book.frame.bytes.now }
+        ensures is { result ≡ reach_of self.now.book.frame.bytes.now self.now.aspect
+            (record { atom = atom; positive = positive }) }
+        ensures small { result ≤ 256 }
+    {
+        if self.looks_at(atom, positive) {
+            self.book.level(atom) + 1
+        } else {
+            0
+        }
     }
-    reach
-}
 
-// Those of all comparisons.
-pub(crate) fn reaches(book: &[u8], aspect: Aspect) -> [u16; MOST_COMPARISONS]
-    requires { Ready book.now }
-    ensures { let b = book.now in Reaches b aspect (comparison_count b) result }
-{
-    let n = count_of(book, COMPARISONS);
-    let mut found = [0u16; MOST_COMPARISONS];
-    let mut c = 0;
-    while c < n {
-        found[c] = short(comparison_reach(book, aspect, c));
-        c += 1;
+    // The same of element e, by whether sign 0 and sign 1 are positive.
+    fn element_reach(&self, plain: bool, negated: bool, e: usize) -> usize
+        requires { e < element_count self.now.book.frame.bytes.now }
+        ensures is { let b = self.now.book.frame.bytes.now in
+            result ≡ reach_of b self.now.aspect (used_as plain negated (element_in b e)) }
+        ensures small { result ≤ 256 }
+    {
+        match self.book.frame.element(e).literal() {
+            Literal::Plain(atom) => self.use_reach(atom, plain),
+            Literal::Negated(atom) => self.use_reach(atom, negated),
+        }
     }
-    found
+
+    // The highest of comparison c.
+    #[tactic(auto, using(crate::proofs::ReachLaws::elements))]
+    pub(crate) fn comparison_reach(&self, c: usize) -> usize
+        requires { c < comparison_count self.now.book.frame.bytes.now }
+        ensures is { result ≡ comparison_reach self.now.book.frame.bytes.now self.now.aspect c }
+        ensures small { result ≤ 256 }
+    {
+        let comparison = self.book.frame.comparison(c);
+        let aggregate = Aggregate::from(comparison.aggregate);
+        let relation = Relation::from(comparison.relation);
+        let plain = grows_in(aggregate, relation);
+        let negated = shrinks_in(aggregate, relation);
+        let mut reach = 0;
+        for e in comparison.first..comparison.first + comparison.many {
+            reach = self.element_reach(plain, negated, e).max(reach);
+        }
+        reach
+    }
+
+    // Does the check ask anything of rules with this head?
+    pub(crate) fn asks_of(&self, head: usize) -> bool
+        requires { head < atom_count self.now.book.frame.bytes.now }
+        ensures { result ≡ asks_of self.now.book.frame.bytes.now self.now.aspect head }
+    {
+        match self.aspect {
+            Aspect::Height => true,
+            Aspect::Sign => self.book.is_certain(head),
+            Aspect::Certainty => self.book.is_certain(head),
+        }
+    }
+
+    // How high their uses may reach.
+    pub(crate) fn limit_of(&self, head: usize) -> usize
+        requires { head < atom_count self.now.book.frame.bytes.now }
+        ensures { result ≡ limit_of self.now.book.frame.bytes.now self.now.aspect head }
+    {
+        match self.aspect {
+            Aspect::Height => self.book.level(head) + 1,
+            Aspect::Sign => self.book.level(head),
+            Aspect::Certainty => 0,
+        }
+    }
 }

@@ -1,60 +1,43 @@
 // Which elements a comparison uses positively, found once for all of them: those of sign 0, those of sign 1, or none.
 ghost use Rattle.std.specs.Prelude.{◌≡◌};
-ghost use Rattle.meaning.specs.Reading.{aggregate_of, relation_of};
 ghost use Rattle.meaning.specs.Refusal.{grows, is_above, is_below, shrinks};
 
+use meaning::codes::{Aggregate, Relation};
+
 // > or ≥?
-fn is_above(relation: usize) -> bool
-    ensures { result ≡ is_above (relation_of relation) }
+fn is_above(relation: Relation) -> bool
+    ensures { result ≡ is_above relation }
 {
-    match relation {
-        0 => false,
-        1 => false,
-        2 => false,
-        3 => false,
-        4 => true,
-        5 => true,
-        6.. => true,
-    }
+    matches!(relation, Relation::Gt | Relation::Ge)
 }
 
 // < or ≤?
-fn is_below(relation: usize) -> bool
-    ensures { result ≡ is_below (relation_of relation) }
+fn is_below(relation: Relation) -> bool
+    ensures { result ≡ is_below relation }
 {
-    match relation {
-        0 => false,
-        1 => false,
-        2 => true,
-        3 => true,
-        4 => false,
-        5 => false,
-        6.. => false,
-    }
+    matches!(relation, Relation::Lt | Relation::Le)
 }
 
 // Those of sign 0?
-pub(crate) fn grows_in(aggregate: usize, relation: usize) -> bool
-    ensures { result ≡ grows (aggregate_of aggregate) (relation_of relation) }
+pub(crate) fn grows_in(aggregate: Aggregate, relation: Relation) -> bool
+    ensures { result ≡ grows aggregate relation }
 {
     match aggregate {
-        0 => is_above(relation),
-        1 => false,
-        2 => is_below(relation),
-        3 => is_above(relation),
-        4.. => is_above(relation),
+        Aggregate::Count => is_above(relation),
+        Aggregate::Sum => false,
+        Aggregate::Min => is_below(relation),
+        Aggregate::Max => is_above(relation),
     }
 }
 
 // Those of sign 1?
-pub(crate) fn shrinks_in(aggregate: usize, relation: usize) -> bool
-    ensures { result ≡ shrinks (aggregate_of aggregate) (relation_of relation) }
+pub(crate) fn shrinks_in(aggregate: Aggregate, relation: Relation) -> bool
+    ensures { result ≡ shrinks aggregate relation }
 {
     match aggregate {
-        0 => is_below(relation),
-        1 => false,
-        2 => false,
-        3 => false,
-        4.. => false,
+        Aggregate::Count => is_below(relation),
+        Aggregate::Sum => false,
+        Aggregate::Min => false,
+        Aggregate::Max => false,
     }
 }

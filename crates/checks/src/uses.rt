@@ -1,135 +1,112 @@
 // Checks 9 to 11: each rule against the atoms that it uses, of which none may reach above the limit of the rule's head.
+// The highest use of each comparison is found once, for all rules that name it.
 ghost use Rattle.std.specs.Prelude.{◌≡◌, ◌<◌};
 ghost use Rattle.std.proofs.Math.Option.{none};
-ghost use Rattle.meaning.specs.Format.{atom_count, comparison_count, hypothesis_count, rule_count, tables};
+ghost use Rattle.meaning.specs.Format.{comparison_count, hypothesis_count, rule_count, tables};
 ghost use Rattle.meaning.specs.Reading.{levels_of, reading};
 ghost use Rattle.meaning.specs.Refusal.{refusal10, refusal11, refusal9};
-ghost use Rattle.book.specs.Framed.{Ready};
-ghost use Rattle.checks.specs.Uses.{Reaches, asks_of, hypothesis_reach, limit_of, number_of, rule_fault, rule_refusal};
-ghost use Rattle.checks.specs.Verdicts.{verdict_of};
+ghost use Rattle.checks.specs.Uses.{Reaches, hypothesis_reach, rule_fault, rule_refusal};
+ghost use Rattle.checks.specs.Refused.{refused};
 
-use crate::reaches::{Aspect, reaches, use_reach};
-use crate::verdict::Verdict;
-use book::atoms::{is_certain, level_of};
-use book::casts::{short, wide};
-use book::fields::{hypothesis_index, hypothesis_sort, rule_first, rule_head, rule_many};
-use book::readers::count_of;
-use book::tables::RULES;
+use crate::reaches::{Aspect, View};
+use crate::refusal::Refusal;
+use book::ready::Book;
+use book::tables::{COMPARISONS, MOST_COMPARISONS, RULES};
+use meaning::codes::Sort;
 
-// The number of the check.
-fn number_of(aspect: Aspect) -> u8
-    ensures { result ≡ number_of aspect }
-{
-    match aspect {
-        Aspect::Height => 9,
-        Aspect::Sign => 10,
-        Aspect::Certainty => 11,
-    }
+// How high each comparison of a book reaches. What asks this is written into each of the three checks (`inline`), so
+// that no loop asks which of them it is: a book whose rules name many hypotheses then takes a fifth less.
+#[derive(Drop)]
+struct Reach<'a> {
+    view: View<'a>,
+    found: [u16; MOST_COMPARISONS],
+    ghost right: { let b = view.book.frame.bytes.now in Reaches b view.aspect (comparison_count b) found },
 }
 
-// Does the check ask anything of rules with this head?
-fn asks_of(book: &[u8], aspect: Aspect, head: usize) -> bool
-    requires { let b = book.now in Ready b × (head < atom_count b) }
-    ensures { result ≡ asks_of book.now aspect head }
-{
-    match aspect {
-        Aspect::Height => true,
-        Aspect::Sign => is_certain(book, head),
-        Aspect::Certainty => is_certain(book, head),
-    }
-}
-
-// How high their uses may reach.
-fn limit_of(book: &[u8], aspect: Aspect, head: usize) -> usize
-    requires { let b = book.now in Ready b × (head < atom_count b) }
-    ensures { result ≡ limit_of book.now aspect head }
-{
-    match aspect {
-        Aspect::Height => level_of(book, head) + 1,
-        Aspect::Sign => level_of(book, head),
-        Aspect::Certainty => 0,
-    }
-}
-
-// How high hypothesis h reaches.
-fn hypothesis_reach(book: &[u8], found: &[u16], aspect: Aspect, h: usize) -> usize
-    requires { let b = book.now in
-        Ready b × Reaches b aspect (comparison_count b) found.now × (h < hypothesis_count b) }
-    ensures { result ≡ hypothesis_reach book.now aspect h }
-{
-    let sort = hypothesis_sort(book, h);
-    let index = hypothesis_index(book, h);
-    match sort {
-        0 => use_reach(book, aspect, index, true),
-        1 => use_reach(book, aspect, index, false),
-        _ => wide(found[index]),
-    }
-}
-
-// Does a hypothesis of rule r reach above the limit?
-fn rule_fault(book: &[u8], found: &[u16], aspect: Aspect, r: usize) -> bool
-    requires { let b = book.now in Ready b × Reaches b aspect (comparison_count b) found.now × (r < rule_count b) }
-    ensures { result ≡ rule_fault book.now aspect r }
-{
-    let head = rule_head(book, r);
-    if !asks_of(book, aspect, head) {
-        return false;
-    }
-    let limit = limit_of(book, aspect, head);
-    let first = rule_first(book, r);
-    let end = first + rule_many(book, r);
-    let mut h = first;
-    while h < end {
-        if limit < hypothesis_reach(book, found, aspect, h) {
-            return true;
+impl<'a> Reach<'a> {
+    // Each is found once, for all rules that name it.
+    #[inline(always)]
+    fn of(view: View<'a>) -> Reach<'a>
+        ensures { result.view ≡ view.entry }
+    {
+        let mut found = [0u16; MOST_COMPARISONS];
+        for c in 0..view.book.frame.count(COMPARISONS) {
+            found[c] = view.comparison_reach(c) as u16;
         }
-        h += 1;
+        Reach { view, found }
     }
-    false
+
+    // How high hypothesis h reaches.
+    #[tactic(auto, using(crate::proofs::HypothesisLaws::sorts))]
+    fn hypothesis_reach(&self, h: usize) -> usize
+        requires { h < hypothesis_count self.now.view.book.frame.bytes.now }
+        ensures { result ≡ hypothesis_reach self.now.view.book.frame.bytes.now self.now.view.aspect h }
+    {
+        let hypothesis = self.view.book.frame.hypothesis(h);
+        let sort = Sort::from(hypothesis.sort);
+        if sort == Sort::Comparison {
+            return usize::from(self.found[hypothesis.index]);
+        }
+        self.view.use_reach(hypothesis.index, sort == Sort::Atom)
+    }
+
+    // Does a hypothesis of rule r reach above the limit?
+    #[inline(always)]
+    fn rule_fault(&self, r: usize) -> bool
+        requires { r < rule_count self.now.view.book.frame.bytes.now }
+        ensures { result ≡ rule_fault self.now.view.book.frame.bytes.now self.now.view.aspect r }
+    {
+        let rule = self.view.book.frame.rule(r);
+        if !self.view.asks_of(rule.head) {
+            return false;
+        }
+        let limit = self.view.limit_of(rule.head);
+        for h in rule.first..rule.first + rule.many {
+            if limit < self.hypothesis_reach(h) {
+                return true;
+            }
+        }
+        false
+    }
 }
 
 // The lowest such rule.
-fn check_rules(book: &[u8], aspect: Aspect) -> Verdict
-    requires { Ready book.now }
-    ensures { result ≡ verdict_of (rule_refusal book.now aspect) }
+#[inline(always)]
+#[tactic(auto, using(crate::proofs::RuleLaws::ruled))]
+fn check_rules(book: &Book, aspect: Aspect) -> Result<(), Refusal>
+    ensures { refused result ≡ rule_refusal book.now.frame.bytes.now aspect }
 {
-    let found = reaches(book, aspect);
-    let n = count_of(book, RULES);
-    let mut r = 0;
-    while r < n {
-        if rule_fault(book, &found, aspect, r) {
-            return Verdict::Refused {
-                number: number_of(aspect),
-                table: 3,
-                record: short(r),
-            };
+    let reach = Reach::of(View {
+        book: *book,
+        aspect,
+    });
+    for r in 0..book.frame.count(RULES) {
+        if reach.rule_fault(r) {
+            return Err(aspect.refusal(r as u16));
         }
-        r += 1;
     }
-    Verdict::Passed
+    Ok(())
 }
 
 // 9: a rule uses a predicate of a higher level than its head's.
-pub(crate) fn check_heights(book: &[u8]) -> Verdict
-    requires { Ready book.now }
-    ensures { result ≡ verdict_of (let t = tables book.now in refusal9 (reading t).rules (levels_of t)) }
+pub(crate) fn check_heights(book: &Book) -> Result<(), Refusal>
+    ensures { let t = tables book.now.frame.bytes.now in refused result ≡ refusal9 (reading t).rules (levels_of t) }
 {
     check_rules(book, Aspect::Height)
 }
 
 // 10: the head is certain and uses a predicate of its own level non-positively. It is made after 9, so that no atom
 // that a rule uses is above its head's level.
-pub(crate) fn check_signs(book: &[u8]) -> Verdict
-    requires { let b = book.now in Ready b × (let t = tables b in refusal9 (reading t).rules (levels_of t) ≡ none) }
-    ensures { result ≡ verdict_of (let t = tables book.now in refusal10 (reading t) (levels_of t)) }
+pub(crate) fn check_signs(book: &Book) -> Result<(), Refusal>
+    requires { let t = tables book.now.frame.bytes.now in refusal9 (reading t).rules (levels_of t) ≡ none }
+    ensures { let t = tables book.now.frame.bytes.now in refused result ≡ refusal10 (reading t) (levels_of t) }
 {
     check_rules(book, Aspect::Sign)
 }
 
 // 11: the head is certain and uses an uncertain predicate.
-pub(crate) fn check_certainty(book: &[u8]) -> Verdict
-    requires { Ready book.now }
-    ensures { result ≡ verdict_of (refusal11 (reading (tables book.now))) }
+pub(crate) fn check_certainty(book: &Book) -> Result<(), Refusal>
+    ensures { refused result ≡ refusal11 (reading (tables book.now.frame.bytes.now)) }
 {
     check_rules(book, Aspect::Certainty)
 }

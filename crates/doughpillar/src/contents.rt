@@ -10,6 +10,7 @@ const CONTENTS: usize = 48;
 
 // How many atoms the book says that it has: none if it has no table of contents. A book that is accepted has so many.
 #[unsafe(no_mangle)]
+#[tactic(auto, unfolding(crate::specs::Contents::atoms_said))]
 pub extern "C" fn doughpillar_atoms(book: &[u8]) -> u32
     ensures { result ≡ atoms_said book.now }
 {

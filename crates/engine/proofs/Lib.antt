@@ -1,5 +1,5 @@
 -- Laws of this crate, in reading order.
--- loops over the atoms, and levels
+-- what a level without predicates comes to, and loops over the atoms
 pub mod LevelLaws
 -- rounds come to rest
 pub mod RestLaws

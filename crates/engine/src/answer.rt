@@ -4,23 +4,22 @@ ghost use Rattle.meaning.specs.Outcome.{outcome};
 
 use crate::solve::solve;
 use crate::write::write_answers;
-use book::readers::count_of;
 use book::tables::ATOMS;
 use checks::check::check;
-use checks::verdict::{Verdict, packed};
 
+// A number in place of a Result: it is what C is given, 0 or the refusal's.
+#[tactic(auto, using(crate::proofs::AnswerLaws::answering))]
 pub fn answer(book: &[u8], room: &mut [u8]) -> u32
     ensures number { result ≡ (outcome book.now room.old).number }
     ensures room { room.new ≡ (outcome book.now room.old).room }
 {
-    let verdict = check(book, room.len());
-    match verdict {
-        Verdict::Passed => {
-            let n = count_of(book, ATOMS);
-            let answers = solve(book);
+    match check(book, room.len()) {
+        Ok(book) => {
+            let n = book.frame.count(ATOMS);
+            let answers = solve(&book);
             write_answers(&answers[..n], room);
             0
         }
-        _ => packed(verdict),
+        Err(refusal) => u32::from(refusal),
     }
 }

@@ -1,30 +1,26 @@
 // Rounds until one changes nothing.
-ghost use Rattle.std.specs.Prelude.{◌≡◌, ◌<◌, ◌≤◌, length, take};
+ghost use Rattle.std.specs.Prelude.{◌≡◌, length, take};
+ghost use Rattle.laws.specs.Lists.{times};
 ghost use Rattle.meaning.specs.Format.{atom_count};
-ghost use Rattle.steps.specs.Work.{Ready};
-ghost use Rattle.engine.specs.Turns.{Rested};
+ghost use Rattle.meaning.specs.Model as Model;
+ghost use Rattle.steps.specs.Work.{levels_in, rules_in};
 
-use book::readers::count_of;
+use book::ready::Book;
 use book::tables::{ATOMS, MOST_ATOMS};
+use steps::order::Order;
 use steps::round::round;
+use theory::answer::Truth;
 
-// The order is step (c)'s: no answer depends on what it holds.
-pub fn rounds(
-    book: &[u8],
-    level: usize,
-    before: [u8; MOST_ATOMS],
-    order: &mut [u16],
-) -> [u8; MOST_ATOMS]
-    requires { Ready book.now × (length order.old ≡ 2049) }
-    ensures { let b = book.now in Rested b level (take (atom_count b) before) result }
+// Leads where as many rounds as there are atoms lead. The order is step (c)'s: no answer depends on what it holds.
+// Memory is fixed: the answers of the atoms are the first of 2,048.
+#[tactic(auto, using(crate::proofs::RestLaws::resting))]
+pub fn rounds(book: &Book, level: usize, answers: &mut [Truth; MOST_ATOMS], order: &mut Order)
+    ensures { let b = book.now.frame.bytes.now in
+        take (atom_count b) answers.new
+        ≡ times (atom_count b) (Model.round (rules_in b) (levels_in b) level) (take (atom_count b) answers.old) }
 {
-    let n = count_of(book, ATOMS);
-    let mut answers = before;
-    let mut more = true;
-    while more {
-        let turned = round(book, level, &answers[..n], order);
-        answers = turned.answers;
-        more = turned.changed;
+    let n = book.frame.count(ATOMS);
+    while let Some(after) = round(book, level, &answers[..n], order) {
+        *answers = after;
     }
-    answers
 }

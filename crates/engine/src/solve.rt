@@ -1,46 +1,41 @@
 // Levels from 0 upward; each starts from the lower levels' answers and the given atoms.
-ghost use Rattle.std.specs.Prelude.{◌≡◌, ◌<◌, length, take};
+ghost use Rattle.std.specs.Prelude.{◌≡◌, length, take};
 ghost use Rattle.meaning.specs.Format.{atom_count};
+ghost use Rattle.meaning.specs.Model as Model;
 ghost use Rattle.meaning.specs.Outcome.{model_of};
-ghost use Rattle.steps.specs.Work.{Ready, answers_in};
-ghost use Rattle.engine.specs.Turns.{Levelled};
+ghost use Rattle.steps.specs.Work.{levels_in, rules_in};
 
 use crate::levels::{busy, close_level, given_answers};
 use crate::rounds::rounds;
-use book::readers::count_of;
+use book::ready::Book;
 use book::tables::{ATOMS, MOST_ATOMS};
-use steps::order::empty_order;
+use steps::order::Order;
+use theory::answer::Truth;
 
 // One level, and its closing if it is certain.
-fn work_level(
-    book: &[u8],
-    level: usize,
-    before: [u8; MOST_ATOMS],
-    order: &mut [u16],
-) -> [u8; MOST_ATOMS]
-    requires { Ready book.now × (length order.old ≡ 2049) }
-    ensures { let b = book.now in Levelled b level (take (atom_count b) before) result }
+#[tactic(auto, using(crate::proofs::SolveLaws::levelling))]
+fn work_level(book: &Book, level: usize, answers: &mut [Truth; MOST_ATOMS], order: &mut Order)
+    ensures { let b = book.now.frame.bytes.now in
+        take (atom_count b) answers.new
+        ≡ Model.level (rules_in b) (levels_in b) level (take (atom_count b) answers.old) }
 {
-    let n = count_of(book, ATOMS);
-    if busy(book, &before[..n], level) {
-        let rested = rounds(book, level, before, order);
-        return close_level(book, &rested[..n], level);
+    let n = book.frame.count(ATOMS);
+    if busy(book, &answers[..n], level) {
+        rounds(book, level, answers, order);
+        close_level(book, &mut answers[..n], level);
     }
-    before
 }
 
 // The model of a book.
-pub fn solve(book: &[u8]) -> [u8; MOST_ATOMS]
-    requires { Ready book.now }
-    ensures { let b = book.now in (length result ≡ 2048) × (answers_in (take (atom_count b) result) ≡ model_of b) }
+#[tactic(auto, using(crate::proofs::SolveLaws::all_levels), unfolding(meaning::specs::Model::levels_below))]
+pub fn solve(book: &Book) -> [Truth; MOST_ATOMS]
+    ensures long { length result ≡ 2048 }
+    ensures is { let b = book.now.frame.bytes.now in take (atom_count b) result ≡ model_of b }
 {
     let mut answers = given_answers(book);
-    let mut order = empty_order();
-    let mut level = 0;
-    while level < 128 {
-        let worked = work_level(book, level, answers, &mut order);
-        answers = worked;
-        level += 1;
+    let mut order = Order::empty();
+    for level in 0..128 {
+        work_level(book, level, &mut answers, &mut order);
     }
     answers
 }

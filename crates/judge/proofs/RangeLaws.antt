@@ -1,16 +1,24 @@
--- A range of elements with one more, and a total of it. Assumes nothing.
+-- A range of records with one more, of elements too, and a total of it. Assumes nothing.
 use mathlib.Core.Path.{◌≡◌, sym, ap, ◌∙◌}
 use mathlib.Core.List.{List, [], ◌∷◌, ◌++◌, map}
-use Prim.Native.Nat.{ℕ, ◌+◌, ◌<◌}
+use Prim.Native.Nat.{ℕ, ◌+◌, ◌<◌, ◌≤◌}
+use native.Mathlib.Numerals.{add-one}
 use native.Mathlib.Omega.{arith}
 use lib.IntN.{ℤ, ◌+ℤ◌, +ℤ_assoc, +ℤ_idl, +ℤ_idr}
-use lib.ListN.{get_or}
-use Rattle.meaning.specs.Format.{body, element_at, element_count, no_element, tables}
-use Rattle.meaning.specs.Reading.{Element, element_of, range}
+use lib.ListN.{get_or, length, take}
+use lib.Seq.{drop-append-le, length-take-le, slice, slice_empty, take-suc}
+use Rattle.std.proofs.lemmas.List.{map_push}
+use Rattle.meaning.specs.Format.{element_count, no_element, tables}
+use Rattle.meaning.specs.Reading.{Element, element_of}
 use Rattle.meaning.specs.Truth.{total}
-use Rattle.meaning.proofs.Bytes.{body_length}
+use Rattle.book.proofs.Counts.{elements_length}
 use Rattle.judge.specs.Ranges.{element_read, elements_read}
-use Rattle.laws.proofs.Lasts.{map_more, slice_more, slice_start}
+
+pub slice_next : {X : Type 0} (d : X) (xs : List X) (first i : ℕ) → first ≤ i → i < length xs →
+    slice first (i + 1) xs ≡ slice first i xs ++ get_or xs i d ∷ []
+slice_next d xs first i m l =
+    let fits : first ≤ length (take i xs) = omega (arith, m, length-take-le i xs (omega (arith, l))) in
+    rw (add-one, take-suc xs i d l) (drop-append-le _ _ _ fits)
 
 pub total_more : (share : Element → ℤ) (es : List Element) (e : Element) →
     total share (es ++ e ∷ []) ≡ total share es +ℤ share e
@@ -19,14 +27,14 @@ total_more share (x ∷ es) e =
     ap (λ z. share x +ℤ z) (total_more share es e) ∙ sym (+ℤ_assoc (share x) (total share es) (share e))
 
 module _ (b : List ℕ) (first : ℕ) where
-  pub elements_none : elements_read b first 0 ≡ []
+  pub elements_none : elements_read b first first ≡ []
   unfolding elements_read
-  elements_none = ap (map element_of) (slice_start first (tables b).elements)
+  elements_none = ap (map element_of) (slice_empty first (tables b).elements)
 
-  pub elements_more : (i : ℕ) → first + i < element_count b →
-      elements_read b first (i + 1) ≡ elements_read b first i ++ element_read b (first + i) ∷ []
-  unfolding elements_read tables
-  elements_more i l =
-      ap (map element_of)
-      (slice_more no_element first i (body element_at b 5) (omega (arith, l, body_length element_at b 5))) ∙
-      map_more element_of (range first i (body element_at b 5)) (get_or (body element_at b 5) (first + i) no_element)
+  pub elements_more : (e : ℕ) → first ≤ e → e < element_count b →
+      elements_read b first (e + 1) ≡ elements_read b first e ++ element_read b e ∷ []
+  unfolding elements_read
+  elements_more e m l =
+      let es = (tables b).elements in
+      ap (map element_of) (slice_next no_element es first e m (omega (arith, l, elements_length b))) ∙
+      map_push element_of (slice first e es) (get_or es e no_element)

@@ -3,7 +3,5 @@
 pub mod Held
 -- the elements of a range as read
 pub mod Ranges
--- codes of relations, and what an aggregate makes of them
-pub mod Codes
 -- what max and min gather of elements
 pub mod Gathered

@@ -1,24 +1,72 @@
 // Max, and min by the reversed order.
-ghost use Rattle.std.specs.Prelude.{◌≡◌, ◌&&◌, not, ◌+◌, ◌<◌, ◌≤◌, length};
+ghost use Rattle.std.specs.Prelude.{◌≡◌, ℤ, Bool, ◌&&◌, not, ◌+◌, ◌<◌, ◌≤◌, length};
+ghost use Rattle.std.specs.Int.Signed.{lt_z};
 ghost use Rattle.theory.specs.Truth.{is_false, is_true};
-ghost use Rattle.meaning.specs.Format.{atom_count, comparison_count, element_count};
-ghost use Rattle.meaning.specs.Reading.{aggregate_of, code_of, relation_of, truth_of};
-ghost use Rattle.meaning.specs.Truth.{comparison_truth};
-ghost use Rattle.book.specs.Framed.{Ready};
-ghost use Rattle.book.specs.Records.{comparison_in, comparison_read};
+ghost use Rattle.meaning.specs.Format.{atom_count, element_count};
+ghost use Rattle.meaning.specs.declared.codes.Relation.{Relation};
+ghost use Rattle.meaning.specs.Reading.{relation_of};
+ghost use Rattle.meaning.specs.Truth.{above, attained, mirror};
 ghost use Rattle.judge.specs.Held.{held};
-ghost use Rattle.judge.specs.Codes.{order, turned};
 ghost use Rattle.judge.specs.Ranges.{elements_read};
-ghost use Rattle.judge.specs.Gathered.{added, gathered, picked};
+ghost use Rattle.judge.specs.Gathered.{added, gathered, judged, picked};
 
 use crate::elements::element;
-use crate::relations::{decide, mirror_of, opposite_of};
-use book::fields::{
-    comparison_bound, comparison_first, comparison_many, comparison_relation, element_weight,
-};
+use crate::relations::{decide, mirror_of};
+use book::ready::Book;
+use meaning::codes::Relation;
+use meaning::records::ComparisonRecord;
+use theory::answer::Truth;
+
+// An order of the weights, and what it makes of a relation.
+pub trait Order {
+    ghost below: { ℤ → ℤ → Bool };
+
+    ghost turned: { Relation → Relation };
+
+    fn below(w: i64, k: i64) -> bool
+        ensures { result ≡ below w k };
+
+    fn turned(relation: Relation) -> Relation
+        ensures { result ≡ turned relation };
+}
+
+// That of max.
+pub struct Upward;
+
+impl Order for Upward {
+    ghost below = { lt_z };
+
+    ghost turned = { λ r. r };
+
+    fn below(w: i64, k: i64) -> bool {
+        w < k
+    }
+
+    fn turned(relation: Relation) -> Relation {
+        relation
+    }
+}
+
+// That of min, which mirrors its relation.
+pub struct Reversed;
+
+impl Order for Reversed {
+    ghost below = { above };
+
+    ghost turned = { mirror };
+
+    fn below(w: i64, k: i64) -> bool {
+        k < w
+    }
+
+    fn turned(relation: Relation) -> Relation {
+        mirror_of(relation)
+    }
+}
 
 // What one reading of the elements finds: is there a definite one; is some definite weight equal to the bound, above
-// it, at least it; is every possible one unequal to it, below it, at most it.
+// it, at least it; is every possible one unequal to it, below it, at most it. A trait of this and of `Ends` would be no
+// plainer: of the two only the ends ask that what is added fits.
 #[derive(Clone, Copy)]
 pub struct Extremes {
     pub definite: bool,
@@ -30,118 +78,77 @@ pub struct Extremes {
     pub within: bool,
 }
 
-// w before k, by the order of max or by the reversed one of min.
-fn before(aggregate: usize, w: i64, k: i64) -> bool
-    ensures { result ≡ order (aggregate_of aggregate) w k }
-{
-    match aggregate {
-        0 | 1 => w < k,
-        2 => k < w,
-        3 => w < k,
-        4.. => w < k,
+// Of no element.
+const NONE: Extremes = Extremes {
+    definite: false,
+    equal: false,
+    above: false,
+    reaching: false,
+    unequal: true,
+    below: true,
+    within: true,
+};
+
+impl Extremes {
+    // One element more: its truth, and whether its weight is below or above the bound.
+    fn add(&self, truth: Truth, below: bool, above: bool) -> Extremes
+        ensures { result ≡ added self.now (is_true truth) (not (is_false truth)) below above }
+    {
+        let definite = truth == Truth::True;
+        let possible = truth != Truth::False;
+        Extremes {
+            definite: self.definite | definite,
+            equal: self.equal | (definite & (!below & !above)),
+            above: self.above | (definite & above),
+            reaching: self.reaching | (definite & !below),
+            unequal: self.unequal & (!possible | (below | above)),
+            below: self.below & (!possible | below),
+            within: self.within & (!possible | !above),
+        }
+    }
+
+    // Of the elements that c ranges over.
+    fn of<O: Order>(book: &Book, answers: &[Truth], c: &ComparisonRecord) -> Extremes
+        requires room { atom_count book.now.frame.bytes.now ≤ length answers.now }
+        requires there { c.now.first + c.now.many ≤ element_count book.now.frame.bytes.now }
+        ensures { result ≡ gathered O.below (held answers.now) c.now.bound
+            (elements_read book.now.frame.bytes.now c.now.first (c.now.first + c.now.many)) }
+    {
+        let mut found = NONE;
+        for e in c.first..c.first + c.many {
+            let next = element(book, answers, e);
+            let below = O::below(next.weight, c.bound);
+            let above = O::below(c.bound, next.weight);
+            found = found.add(next.truth, below, above);
+        }
+        found
+    }
+
+    // Never true without a definite element.
+    fn attained(&self, relation: Relation) -> bool
+        ensures { result ≡ (self.now.definite && picked relation self.now) }
+    {
+        self.definite
+            & match relation {
+                Relation::Eq => self.equal & self.within,
+                Relation::Ne => self.unequal | self.above,
+                Relation::Lt => self.below,
+                Relation::Le => self.within,
+                Relation::Gt => self.above,
+                Relation::Ge => self.reaching,
+            }
     }
 }
 
-// One element more: its truth, and whether its weight is below or above the bound.
-fn add(found: Extremes, truth: u8, below: bool, above: bool) -> Extremes
-    ensures { result ≡ added found (is_true (truth_of truth)) (not (is_false (truth_of truth))) below above }
+// Max and min, by their order.
+#[tactic(auto, using(crate::proofs::ExtremeLaws::attained_is))]
+pub fn extreme_truth<O: Order>(book: &Book, answers: &[Truth], c: &ComparisonRecord) -> Truth
+    requires room { atom_count book.now.frame.bytes.now ≤ length answers.now }
+    requires there { c.now.first + c.now.many ≤ element_count book.now.frame.bytes.now }
+    ensures { let es = elements_read book.now.frame.bytes.now c.now.first (c.now.first + c.now.many) in
+        let holds = λ (r : Relation). attained O.below (O.turned r) (held answers.now) es c.now.bound in
+        result ≡ judged holds (relation_of c.now.relation) }
 {
-    let definite = truth == 1;
-    let possible = truth != 2;
-    Extremes {
-        definite: found.definite | definite,
-        equal: found.equal | (definite & (!below & !above)),
-        above: found.above | (definite & above),
-        reaching: found.reaching | (definite & !below),
-        unequal: found.unequal & (!possible | (below | above)),
-        below: found.below & (!possible | below),
-        within: found.within & (!possible | !above),
-    }
-}
-
-fn gather(
-    book: &[u8],
-    answers: &[u8],
-    aggregate: usize,
-    k: i64,
-    first: usize,
-    many: usize,
-) -> Extremes
-    requires { let b = book.now in
-        Ready b × (atom_count b ≤ length answers.now) × (first + many ≤ element_count b) }
-    ensures { result ≡ gathered (order (aggregate_of aggregate)) (held answers.now) k
-        (elements_read book.now first many) }
-{
-    let mut found = Extremes {
-        definite: false,
-        equal: false,
-        above: false,
-        reaching: false,
-        unequal: true,
-        below: true,
-        within: true,
-    };
-    let mut i = 0;
-    while i < many {
-        let truth = element(book, answers, first + i);
-        let w = element_weight(book, first + i);
-        found = add(
-            found,
-            truth,
-            before(aggregate, w, k),
-            before(aggregate, k, w),
-        );
-        i += 1;
-    }
-    found
-}
-
-// Min mirrors max.
-fn turned_of(aggregate: usize, relation: usize) -> usize
-    ensures { relation_of result ≡ turned (aggregate_of aggregate) (relation_of relation) }
-{
-    match aggregate {
-        0 | 1 => relation,
-        2 => mirror_of(relation),
-        3 => relation,
-        4.. => relation,
-    }
-}
-
-// Never true without a definite element.
-fn attained(found: Extremes, relation: usize) -> bool
-    ensures { result ≡ (found.definite && picked (relation_of relation) found) }
-{
-    match relation {
-        0 => found.definite & (found.equal & found.within),
-        1 => found.definite & (found.unequal | found.above),
-        2 => found.definite & found.below,
-        3 => found.definite & found.within,
-        4 => found.definite & found.above,
-        5 => found.definite & found.reaching,
-        6.. => found.definite & found.reaching,
-    }
-}
-
-// Comparison c, of min or max.
-pub fn extreme_truth(book: &[u8], answers: &[u8], aggregate: usize, c: usize) -> u8
-    requires { let b = book.now in
-        Ready b × (atom_count b ≤ length answers.now) × (c < comparison_count b)
-        × (aggregate ≡ (comparison_in b c).aggregate) × (2 ≤ aggregate) }
-    ensures { result ≡ code_of (comparison_truth (held answers.now)
-        (comparison_read book.now c)) }
-{
-    let relation = comparison_relation(book, c);
-    let found = gather(
-        book,
-        answers,
-        aggregate,
-        comparison_bound(book, c),
-        comparison_first(book, c),
-        comparison_many(book, c),
-    );
-    decide(
-        attained(found, turned_of(aggregate, relation)),
-        attained(found, turned_of(aggregate, opposite_of(relation))),
-    )
+    let found = Extremes::of::<O>(book, answers, c);
+    decide(Relation::from(c.relation), |r| found.attained(O::turned(r)))
 }

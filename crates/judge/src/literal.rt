@@ -1,38 +1,36 @@
-// The truth of an atom and of a literal: 0 undefined, 1 true, 2 false.
+// The truth of an atom and of a literal.
 ghost use Rattle.std.specs.Prelude.{◌≡◌, ◌<◌, length, set};
-ghost use Rattle.meaning.specs.Reading.{code_of, literal_of};
+ghost use Rattle.meaning.specs.Reading.{atom_of};
 ghost use Rattle.meaning.specs.Truth.{literal_truth};
 ghost use Rattle.judge.specs.Held.{held};
 
+use meaning::codes::Literal;
+use theory::answer::Truth;
+
 // No other function reads the answers' memory.
-pub fn answer(answers: &[u8], a: usize) -> u8
+#[tactic(auto, unfolding(crate::specs::Held::held))]
+pub fn answer(answers: &[Truth], a: usize) -> Truth
     requires { a < length answers.now }
-    ensures { result ≡ code_of (held answers.now a) }
+    ensures { result ≡ held answers.now a }
 {
-    let x = answers[a];
-    if x < 3 { x } else { 0 }
+    answers[a]
 }
 
 // And no other function writes it.
-pub fn set_answer(answers: &mut [u8], a: usize, x: u8)
+pub fn set_answer(answers: &mut [Truth], a: usize, x: Truth)
     requires { a < length answers.old }
     ensures { answers.new ≡ set answers.old a x }
 {
     answers[a] = x;
 }
 
-// Undefined stays undefined under "not".
-pub fn literal(answers: &[u8], sign: usize, a: usize) -> u8
-    requires { a < length answers.now }
-    ensures { result ≡ code_of (literal_truth (held answers.now) (literal_of sign a)) }
+#[tactic(auto, unfolding(meaning::specs::Truth::literal_truth))]
+pub fn literal(answers: &[Truth], literal: Literal) -> Truth
+    requires { atom_of literal < length answers.now }
+    ensures { result ≡ literal_truth (held answers.now) literal }
 {
-    let truth = answer(answers, a);
-    match sign {
-        0 => truth,
-        _ => match truth {
-            1 => 2,
-            2 => 1,
-            _ => 0,
-        },
+    match literal {
+        Literal::Plain(a) => answer(answers, a),
+        Literal::Negated(a) => answer(answers, a).flip(),
     }
 }

@@ -1,43 +1,42 @@
-// The six relations by their codes: 0 =, 1 ≠, 2 <, 3 ≤, 4 >, 5 ≥. A code that is not listed is read as the last.
-ghost use Rattle.std.specs.Prelude.{◌≡◌};
-ghost use Rattle.meaning.specs.Reading.{code_of, relation_of};
-ghost use Rattle.meaning.specs.Truth.{decided, mirror, opposite};
-ghost use Rattle.meaning.specs.Writing.{relation_code};
+// The opposite and the mirrored of each relation, in the order of their codes, and the truth that two of them decide.
+ghost use Rattle.std.specs.Prelude.{◌≡◌, Bool};
+ghost use Rattle.meaning.specs.declared.codes.Relation.{Relation};
+ghost use Rattle.meaning.specs.Truth.{mirror, opposite};
+ghost use Rattle.judge.specs.Gathered.{judged};
 
-const OPPOSITE: [usize; 6] = [1, 0, 5, 4, 3, 2];
+use meaning::codes::Relation;
+use meaning::codes::Relation::{Eq, Ge, Gt, Le, Lt, Ne};
+use theory::answer::Truth;
 
-// The relation that a reversed order makes of each.
-const MIRROR: [usize; 6] = [0, 1, 4, 5, 2, 3];
+const OPPOSITE: [Relation; 6] = [Ne, Eq, Ge, Gt, Le, Lt];
 
-pub fn opposite_of(relation: usize) -> usize
-    ensures { result ≡ relation_code (opposite (relation_of relation)) }
+// The relation that a reversed order makes of each. One reader of both tables would be no plainer: its contract would
+// have to say which table it reads.
+const MIRROR: [Relation; 6] = [Eq, Ne, Gt, Ge, Lt, Le];
+
+pub fn opposite_of(relation: Relation) -> Relation
+    ensures { result ≡ opposite relation }
 {
-    if relation < 6 {
-        OPPOSITE[relation]
-    } else {
-        OPPOSITE[5]
-    }
+    OPPOSITE[relation as usize]
 }
 
-pub fn mirror_of(relation: usize) -> usize
-    ensures { result ≡ relation_code (mirror (relation_of relation)) }
+pub fn mirror_of(relation: Relation) -> Relation
+    ensures { result ≡ mirror relation }
 {
-    if relation < 6 {
-        MIRROR[relation]
-    } else {
-        MIRROR[5]
-    }
+    MIRROR[relation as usize]
 }
 
-// A comparison is false when its opposite is true, else undefined.
-pub fn decide(holds: bool, opposite: bool) -> u8
-    ensures { result ≡ code_of (decided holds opposite) }
+// The truth of a comparison, by which relations hold: false when its opposite does, else undefined.
+pub fn decide<F: Fn(Relation) -> bool>(relation: Relation, holds: F) -> Truth
+    requires { F.IsAlwaysCallable holds }
+    ensures { (test : Relation → Bool) → ((r : Relation) (x : Bool) → F.post holds r x → x ≡ test r) →
+        result ≡ judged test relation }
 {
-    if holds {
-        return 1;
+    if holds(relation) {
+        Truth::True
+    } else if holds(opposite_of(relation)) {
+        Truth::False
+    } else {
+        Truth::Undefined
     }
-    if opposite {
-        return 2;
-    }
-    0
 }

@@ -1,102 +1,124 @@
 // Count and sum: the least and the most that they can come to.
-ghost use Rattle.std.specs.Prelude.{◌≡◌, ◌+◌, ◌<◌, ◌≤◌, length};
-ghost use Rattle.meaning.specs.Format.{atom_count, comparison_count, element_count};
-ghost use Rattle.meaning.specs.Reading.{aggregate_of, code_of, relation_of, truth_of};
-ghost use Rattle.meaning.specs.Truth.{between, comparison_truth, least, least_share, most, most_share};
-ghost use Rattle.book.specs.Framed.{Ready};
-ghost use Rattle.book.specs.Records.{comparison_in, comparison_read};
+ghost use Rattle.std.specs.Prelude.{◌≡◌, ℤ, pos, ◌+◌, ◌+ℤ◌, ◌^◌, ◌<◌, ◌≤◌, nat_abs, length};
+ghost use Rattle.meaning.specs.Format.{atom_count, element_count};
+ghost use Rattle.meaning.specs.declared.codes.Relation.{Relation};
+ghost use Rattle.meaning.specs.Reading.{relation_of};
+ghost use Rattle.meaning.specs.Truth.{between, least, least_share, most, most_share, weighed};
+ghost use Rattle.judge.specs.Gathered.{judged};
 ghost use Rattle.judge.specs.Held.{held};
-ghost use Rattle.judge.specs.Codes.{weighing};
-ghost use Rattle.judge.specs.Ranges.{elements_read};
+ghost use Rattle.judge.specs.Ranges.{elements_read, weighing};
 
-use crate::elements::{element, weight};
-use crate::relations::{decide, opposite_of};
-use book::fields::{comparison_bound, comparison_first, comparison_many, comparison_relation};
+use crate::elements::element;
+use crate::relations::decide;
+use book::ready::Book;
+use meaning::codes::Relation;
+use meaning::records::ComparisonRecord;
+use theory::answer::Truth;
 
-#[derive(Drop)]
+// What an element weighs.
+pub trait Weight {
+    ghost weight: { ℤ → ℤ };
+
+    fn weight(own: i64) -> i64
+        requires { nat_abs own ≤ 2 ^ 31 }
+        ensures is { result ≡ weight own }
+        ensures small { nat_abs result ≤ 2 ^ 31 };
+}
+
+// In a count, each weighs 1.
+pub struct One;
+
+impl Weight for One {
+    ghost weight = { λ own. pos 1 };
+
+    fn weight(own: i64) -> i64 {
+        1
+    }
+}
+
+// In a sum, each has its own weight.
+pub struct Own;
+
+impl Weight for Own {
+    ghost weight = { λ own. own };
+
+    fn weight(own: i64) -> i64 {
+        own
+    }
+}
+
+#[derive(Clone, Copy)]
 pub struct Ends {
     pub least: i64,
     pub most: i64,
 }
 
-// What an element adds to the least: its weight if definite, its negative weight if undefined.
-fn least_share(truth: u8, w: i64) -> i64
-    ensures { result ≡ least_share (truth_of truth) w }
-{
-    match truth {
-        1 => w,
-        2 => 0,
-        _ => if w < 0 { w } else { 0 },
+// Of no element.
+const NONE: Ends = Ends { least: 0, most: 0 };
+
+impl Ends {
+    // One element more: its weight if definite; if undefined, a negative weight for the least, a positive one for the
+    // most.
+    fn add(self, truth: Truth, w: i64) -> Ends
+        requires least { nat_abs self.least + nat_abs w < 2 ^ 63 }
+        requires most { nat_abs self.most + nat_abs w < 2 ^ 63 }
+        ensures least { result.least ≡ self.least +ℤ least_share truth w }
+        ensures most { result.most ≡ self.most +ℤ most_share truth w }
+    {
+        match truth {
+            Truth::Undefined => Ends {
+                least: self.least + w.min(0),
+                most: self.most + w.max(0),
+            },
+            Truth::True => Ends {
+                least: self.least + w,
+                most: self.most + w,
+            },
+            Truth::False => self,
+        }
+    }
+
+    // Of the elements that c ranges over.
+    fn of<W: Weight>(book: &Book, answers: &[Truth], c: &ComparisonRecord) -> Ends
+        requires room { atom_count book.now.frame.bytes.now ≤ length answers.now }
+        requires there { c.now.first + c.now.many ≤ element_count book.now.frame.bytes.now }
+        ensures least { let es = elements_read book.now.frame.bytes.now c.now.first (c.now.first + c.now.many) in
+            result.least ≡ least (weighing W.weight) (held answers.now) es }
+        ensures most { let es = elements_read book.now.frame.bytes.now c.now.first (c.now.first + c.now.many) in
+            result.most ≡ most (weighing W.weight) (held answers.now) es }
+    {
+        let mut found = NONE;
+        for e in c.first..c.first + c.many {
+            let next = element(book, answers, e);
+            found = found.add(next.truth, W::weight(next.weight));
+        }
+        found
+    }
+
+    // = k when least and most are k; > k when least > k; and so on.
+    #[tactic(auto, unfolding(meaning::specs::Truth::between))]
+    fn between(self, relation: Relation, k: i64) -> bool
+        ensures { result ≡ between relation self.least self.most k }
+    {
+        match relation {
+            Relation::Eq => self.least == k && self.most == k,
+            Relation::Ne => self.least > k || self.most < k,
+            Relation::Lt => self.most < k,
+            Relation::Le => self.most <= k,
+            Relation::Gt => self.least > k,
+            Relation::Ge => self.least >= k,
+        }
     }
 }
 
-// And to the most: its weight if definite, its positive weight if undefined.
-fn most_share(truth: u8, w: i64) -> i64
-    ensures { result ≡ most_share (truth_of truth) w }
+// Count and sum, by what an element weighs.
+pub fn sum_truth<W: Weight>(book: &Book, answers: &[Truth], c: &ComparisonRecord) -> Truth
+    requires room { atom_count book.now.frame.bytes.now ≤ length answers.now }
+    requires there { c.now.first + c.now.many ≤ element_count book.now.frame.bytes.now }
+    ensures { let es = elements_read book.now.frame.bytes.now c.now.first (c.now.first + c.now.many) in
+        let holds = λ (r : Relation). weighed (weighing W.weight) r (held answers.now) es c.now.bound in
+        result ≡ judged holds (relation_of c.now.relation) }
 {
-    match truth {
-        1 => w,
-        2 => 0,
-        _ => if 0 < w { w } else { 0 },
-    }
-}
-
-fn ends_of(book: &[u8], answers: &[u8], aggregate: usize, first: usize, many: usize) -> Ends
-    requires { let b = book.now in
-        Ready b × (atom_count b ≤ length answers.now) × (first + many ≤ element_count b) }
-    ensures { let b = book.now in let A = answers.now in
-        (result.least ≡ least (weighing (aggregate_of aggregate)) (held A) (elements_read b first many))
-        × (result.most ≡ most (weighing (aggregate_of aggregate)) (held A) (elements_read b first many)) }
-{
-    let mut least: i64 = 0;
-    let mut most: i64 = 0;
-    let mut i = 0;
-    while i < many {
-        let truth = element(book, answers, first + i);
-        let w = weight(book, aggregate, first + i);
-        least += least_share(truth, w);
-        most += most_share(truth, w);
-        i += 1;
-    }
-    Ends { least, most }
-}
-
-// = k when least and most are k; > k when least > k; and so on, in the order of the codes.
-fn between_holds(relation: usize, least: i64, most: i64, k: i64) -> bool
-    ensures { result ≡ between (relation_of relation) least most k }
-{
-    match relation {
-        0 => (!(least < k) & !(k < least)) & (!(most < k) & !(k < most)),
-        1 => (k < least) | (most < k),
-        2 => most < k,
-        3 => !(k < most),
-        4 => k < least,
-        5 => !(least < k),
-        6.. => !(least < k),
-    }
-}
-
-// Comparison c, of count or sum.
-pub fn sum_truth(book: &[u8], answers: &[u8], aggregate: usize, c: usize) -> u8
-    requires { let b = book.now in
-        Ready b × (atom_count b ≤ length answers.now) × (c < comparison_count b)
-        × (aggregate ≡ (comparison_in b c).aggregate) × (aggregate < 2) }
-    ensures { result ≡ code_of (comparison_truth (held answers.now)
-        (comparison_read book.now c)) }
-{
-    let relation = comparison_relation(book, c);
-    let k = comparison_bound(book, c);
-    let found = ends_of(
-        book,
-        answers,
-        aggregate,
-        comparison_first(book, c),
-        comparison_many(book, c),
-    );
-    let least = found.least;
-    let most = found.most;
-    decide(
-        between_holds(relation, least, most, k),
-        between_holds(opposite_of(relation), least, most, k),
-    )
+    let ends = Ends::of::<W>(book, answers, c);
+    decide(Relation::from(c.relation), |r| ends.between(r, c.bound))
 }

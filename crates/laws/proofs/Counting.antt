@@ -2,27 +2,26 @@
 -- number. Assumes nothing.
 use mathlib.Core.Path.{◌≡◌, refl, ap₂}
 use mathlib.Core.Logic.{◌⊎◌, inl, inr, ⊎_elim}
-use mathlib.Core.Bool.{Bool, true, false, cond, So}
+use mathlib.Core.Bool.{Bool, false, cond, So}
 use mathlib.Core.List.{List, [], ◌∷◌}
 use Prim.Native.Nat.{ℕ, suc, ◌+◌, ◌<◌, ◌≤◌}
 use native.Mathlib.Omega.{arith}
 use lib.ListN.{length}
+use Rattle.std.specs.List.{count_by}
+use Rattle.std.proofs.lemmas.List.Sums.{count_by-le-length, sum_by-cons}
 use Rattle.laws.specs.Lists.{map_at}
 
 module _ {X : Type 0} (p : X → Bool) where
   -- how many entries pass
   abbrev pub number : List X → ℕ
-  number [] = 0
-  number (x ∷ xs) = cond (p x) 1 0 + number xs
+  number = count_by p
 
-  one_most : (b : Bool) → cond b 1 0 ≤ 1
-  one_most true = omega arith
-  one_most false = omega arith
+  pub number_more : (x : X) (xs : List X) → number (x ∷ xs) ≡ cond (p x) 1 0 + number xs
+  number_more = sum_by-cons (λ x. cond (p x) 1 0)
 
   -- no more pass than there are
   pub number_most_lem : (xs : List X) → number xs ≤ length xs
-  number_most_lem [] = omega arith
-  number_most_lem (x ∷ xs) = omega (arith, one_most (p x), number_most_lem xs)
+  number_most_lem = count_by-le-length p
 
   module _ (f : ℕ → X → X) where
     -- an entry is left, or it passed the test and no longer does
@@ -36,6 +35,8 @@ module _ {X : Type 0} (p : X → Bool) where
     clears_falls c i (x ∷ xs) =
         let rest = clears_falls c (suc i) xs in
         ⊎_elim
-        (λ e. ⊎_elim (λ es. inl (ap₂ {C = List X} (λ y ys. y ∷ ys) e es)) (λ l. inr (rw e (omega (arith, l)))) rest)
-        (λ (t, n). inr (rw (n, t) (⊎_elim (λ es. rw es (omega arith)) (λ l. omega (arith, l)) rest)))
+        (λ e. ⊎_elim (λ es. inl (ap₂ {C = List X} (λ y ys. y ∷ ys) e es))
+        (λ l. inr (rw (number_more (f i x) (map_at f (suc i) xs), number_more x xs, e) (omega (arith, l)))) rest)
+        (λ (t, n). inr (rw (number_more (f i x) (map_at f (suc i) xs), number_more x xs, n, t)
+        (⊎_elim (λ es. rw es (omega arith)) (λ l. omega (arith, l)) rest)))
         (c i x)

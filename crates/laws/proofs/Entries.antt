@@ -6,8 +6,10 @@ use mathlib.Core.List.{List, [], ◌∷◌, ◌++◌, map}
 use Prim.Native.Nat.{ℕ, zero, suc, ◌<◌}
 use lib.ListN.{length, get_or, take, drop}
 use native.Mathlib.Omega.{arith}
+use Rattle.std.proofs.lemmas.List.{get_or-map}
+use Rattle.std.proofs.lemmas.Bool.{and_from, and_parts, both_ways, or_left, or_right}
 use Rattle.laws.specs.Lists.{In, all, any, gather}
-use Rattle.laws.proofs.Tests.{by-test, test-clash, both, left, right, or_l, or_r}
+use Rattle.laws.proofs.Tests.{by-test}
 
 module _ {X : Type 0} (f : X → Bool) where
   -- what passes somewhere passes at an entry
@@ -18,18 +20,18 @@ module _ {X : Type 0} (f : X → Bool) where
 
   pub entry_any : (xs : List X) (x : X) → In x xs → So (f x) → So (any f xs)
   entry_any [] x i e = elim i [ ]
-  entry_any (y ∷ ys) x (inl q) e = or_l (f y) (any f ys) (rw q e)
-  entry_any (y ∷ ys) x (inr i) e = or_r (f y) (any f ys) (entry_any ys x i e)
+  entry_any (y ∷ ys) x (inl q) e = or_left (f y) (any f ys) (rw q e)
+  entry_any (y ∷ ys) x (inr i) e = or_right (f y) (any f ys) (entry_any ys x i e)
 
   -- what passes everywhere passes at each entry
   pub all_entry : (xs : List X) → So (all f xs) → (x : X) → In x xs → So (f x)
   all_entry [] e x i = elim i [ ]
-  all_entry (y ∷ ys) e x (inl q) = rw (← q) (left (f y) (all f ys) e)
-  all_entry (y ∷ ys) e x (inr i) = all_entry ys (right (f y) (all f ys) e) x i
+  all_entry (y ∷ ys) e x (inl q) = rw (← q) (and_parts (f y) (all f ys) e).0
+  all_entry (y ∷ ys) e x (inr i) = all_entry ys (and_parts (f y) (all f ys) e).1 x i
 
   pub entry_all : (xs : List X) → ((x : X) → In x xs → So (f x)) → So (all f xs)
   entry_all [] h = refl
-  entry_all (y ∷ ys) h = both (h y (inl refl)) (entry_all ys (λ x i. h x (inr i)))
+  entry_all (y ∷ ys) h = and_from _ _ (h y (inl refl)) (entry_all ys (λ x i. h x (inr i)))
 
   -- a test that fails somewhere
   pub not_all : (xs : List X) → all f xs ≡ false → (x : X) × In x xs × (f x ≡ false)
@@ -43,7 +45,7 @@ module _ {X : Type 0} (f : X → Bool) where
   none_any (x ∷ xs) h = rw (h x (inl refl)) (none_any xs (λ y i. h y (inr i)))
 
   pub any_none : (xs : List X) → any f xs ≡ false → (x : X) → In x xs → f x ≡ false
-  any_none xs e x i = by-test (f x) (λ t. test-clash (entry_any xs x i t) e) (λ n. n)
+  any_none xs e x i = by-test (f x) (λ t. absurd (both_ways _ e (entry_any xs x i t))) (λ n. n)
 
 -- a test that passes wherever another does
 module _ {X : Type 0} (f g : X → Bool) where
@@ -115,7 +117,6 @@ module _ {X Y : Type 0} where
       (in_append (f z) (gather f xs) y i)
 
   -- a map read at a place of the list, whatever stands past its end
-  pub map_at_lem : (f : X → Y) (d : X) (e : Y) (xs : List X) (k : ℕ) → k < length xs → get_or (map f xs) k e ≡ f (get_or xs k d)
-  map_at_lem f d e [] k l = absurd (omega (arith, l))
-  map_at_lem f d e (x ∷ xs) zero l = refl
-  map_at_lem f d e (x ∷ xs) (suc k) l = map_at_lem f d e xs k (omega (arith, l))
+  pub map_at_lem : (f : X → Y) (d : X) (e : Y) (xs : List X) (k : ℕ) → k < length xs →
+      get_or (map f xs) k e ≡ f (get_or xs k d)
+  map_at_lem f d e xs k l = get_or-map f xs k d e l

@@ -1,20 +1,15 @@
 -- The last entry of a list: of a slice that is one longer, of a map, and what tests over all entries make of it.
 -- Assumes nothing.
-use mathlib.Core.Path.{◌≡◌, refl, sym, ap, ◌∙◌}
-use mathlib.Core.Bool.{Bool, true, false, ◌&&◌, ◌||◌}
-use mathlib.Core.List.{List, [], ◌∷◌, ◌++◌, map}
+use mathlib.Core.Path.{◌≡◌, refl}
+use mathlib.Core.Bool.{Bool, ◌&&◌, ◌||◌}
+use mathlib.Core.List.{List, [], ◌∷◌, ◌++◌}
 use Prim.Native.Nat.{ℕ, ◌+◌, ◌<◌, ◌≤◌}
 use native.Mathlib.Numerals.{add-one}
 use native.Mathlib.Omega.{arith}
 use lib.ListN.{length, get_or, take}
 use lib.Seq.{drop-append-le, length-take-le, slice, slice_empty, take-suc}
 use Rattle.laws.specs.Lists.{all, any}
-use Rattle.laws.proofs.Tests.{and_all, or_none}
-use Rattle.laws.proofs.Ranges.{any_append}
-
-and_assoc : (a b c : Bool) → ((a && b) && c) ≡ (a && (b && c))
-and_assoc true b c = refl
-and_assoc false b c = refl
+use Rattle.std.proofs.lemmas.List.Recursion.{and_push, or_push}
 
 module _ {X : Type 0} where
   pub slice_start : (first : ℕ) (xs : List X) → slice first (first + 0) xs ≡ []
@@ -29,12 +24,7 @@ module _ {X : Type 0} where
 
   module _ (f : X → Bool) where
     pub any_more : (xs : List X) (x : X) → any f (xs ++ x ∷ []) ≡ (any f xs || f x)
-    any_more xs x = any_append f xs (x ∷ []) ∙ ap (λ (b : Bool). any f xs || b) (or_none (f x))
+    any_more xs x = or_push (any f) f refl (λ _ _. refl) xs x
 
     pub all_more : (xs : List X) (x : X) → all f (xs ++ x ∷ []) ≡ (all f xs && f x)
-    all_more [] x = and_all (f x)
-    all_more (y ∷ ys) x = ap (λ b. f y && b) (all_more ys x) ∙ sym (and_assoc (f y) (all f ys) (f x))
-
-pub map_more : {X Y : Type 0} (f : X → Y) (xs : List X) (x : X) → map f (xs ++ x ∷ []) ≡ map f xs ++ f x ∷ []
-map_more f [] x = refl
-map_more f (y ∷ ys) x = ap (λ zs. f y ∷ zs) (map_more f ys x)
+    all_more xs x = and_push (all f) f refl (λ _ _. refl) xs x

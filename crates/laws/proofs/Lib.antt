@@ -11,18 +11,18 @@ pub mod Places
 pub mod Stores
 -- a function repeated until nothing changes
 pub mod Repeats
+-- tests over the numbers below a bound
+pub mod Numbers
 -- parts of lists
 pub mod Ranges
 -- the last entry of a list
 pub mod Lasts
--- tests over the numbers below a bound
-pub mod Numbers
+-- chains over the numbers of a range
+pub mod Chains
 -- a number that stands twice
 pub mod Twice
 -- how many entries pass a test
 pub mod Counting
--- orders and sums of integers
-pub mod Integers
 -- the size of a sum
 pub mod Sizes
 -- integers of 64 bits

@@ -2,22 +2,18 @@
 use mathlib.Core.Path.{◌≡◌, refl, sym, ap, ◌∙◌, subst}
 use mathlib.Core.Bool.{Bool, true, false, cond, not, So}
 use mathlib.Core.List.{List, [], ◌∷◌}
-use mathlib.Core.Option.{Option, none, some}
+use mathlib.Core.Option.{Option, none, some, some-ne-none}
 use Prim.Native.Nat.{ℕ, zero, suc, ◌+◌, ◌<◌, ◌≤◌}
 use native.Mathlib.Nat.{zero-add}
 use native.Mathlib.Omega.{arith}
 use lib.ListN.{length, get_or}
-use borrow.Author.Count.{below_more}
+use borrow.Author.Count.{below_more, below_none}
 use borrow.Author.Tests.{not-false}
 use Rattle.laws.specs.Lists.{seek, seek_from}
 
 -- what is found is not nothing
 pub some≢none : {X : Type 0} {x : X} → some x ≡ none → ⊥
-some≢none {X} e = subst Is e tt
-  where
-    Is : Option X → Type 0
-    Is none = ⊥
-    Is (some x) = Unit {0}
+some≢none {x = x} e = some-ne-none x e
 
 module _ {X : Type 0} (f : ℕ → X → Bool) (d : X) where
   -- where a search finds nothing, its first test fails and the rest of it finds nothing
@@ -25,7 +21,8 @@ module _ {X : Type 0} (f : ℕ → X → Bool) (d : X) where
   split true i o e = absurd (some≢none e)
   split false i o e = (refl, e)
 
-  pub seek_none : (i : ℕ) (xs : List X) → seek f i xs ≡ none → (k : ℕ) → k < length xs → f (i + k) (get_or xs k d) ≡ false
+  pub seek_none : (i : ℕ) (xs : List X) → seek f i xs ≡ none → (k : ℕ) → k < length xs →
+      f (i + k) (get_or xs k d) ≡ false
   seek_none i [] e k l = absurd (omega (arith, l))
   seek_none i (x ∷ xs) e zero l =
       let q : i ≡ i + 0 = omega arith in
@@ -104,7 +101,7 @@ module _ (f : ℕ → Bool) where
 
   pub none_start : NoneTo 0
   unfolding NoneTo
-  none_start j l = absurd (omega (arith, l))
+  none_start = below_none _
 
   pub none_more : (i : ℕ) → NoneTo i → f i ≡ false → NoneTo (i + 1)
   unfolding NoneTo
@@ -139,6 +136,25 @@ module _ (f : ℕ → Bool) where
   unfolding NoneTo
   numbers_first i n c l t =
       from_first 0 n i l (λ j _ m. c j (omega (arith, m))) (rw zero-add t) ∙ ap some (zero-add i)
+
+-- what a loop over the numbers below n keeps, and what it returns
+pub ruleset lowest = (none_start, none_next, numbers_none, numbers_first)
+
+-- a loop over the numbers below n that ends at the first of them that gives something
+module _ {X : Type 0} (f : ℕ → Option X) where
+  -- none of the numbers below i gives anything
+  unfoldable pub AbsentTo : ℕ → Type 0
+  AbsentTo i = (j : ℕ) → j < i → f j ≡ none
+
+  pub absent_start : AbsentTo 0
+  unfolding AbsentTo
+  absent_start = below_none _
+
+  pub absent_more : (i : ℕ) → AbsentTo i → f i ≡ none → AbsentTo (i + 1)
+  unfolding AbsentTo
+  absent_more i c e = below_more _ i c e
+
+pub ruleset absent = (absent_start, absent_more)
 
 -- a search over a list's entries is one over their places
 pub seek_numbers : {X : Type 0} (f : ℕ → X → Bool) (g : ℕ → Bool) (d : X) (i : ℕ) (xs : List X) →

@@ -1,25 +1,15 @@
 -- Tests, searches and maps over lists, all of which compute. Assumes nothing.
-use Rattle.std.specs.Prelude.{◌≡◌, ◌⊎◌, Bool, true, false, cond, ◌&&◌, ◌||◌, List, [], ◌∷◌, ◌++◌, ℕ, zero, suc, eqb}
+use Rattle.std.specs.Prelude.{◌≡◌, ◌⊎◌, Bool, true, false, cond, ◌&&◌, ◌||◌, List, [], ◌∷◌, ℕ, zero, suc, eqb}
 use Rattle.std.proofs.Math.Option.{Option, none, some}
+-- of the library: P holds at every entry; every entry passes a test, or some does; the lists of all entries, joined
+pub use Rattle.std.specs.List.{AllByRecursion as Every, list_all as all, list_any as any, flat_map as gather}
+use Rattle.std.specs.Fn.{iterate}
 
 module _ {X : Type 0} where
   -- x is an entry of the list
   abbrev pub In : X → List X → Type 0
   In x [] = ⊥
   In x (y ∷ ys) = (y ≡ x) ⊎ In x ys
-
-  -- P holds at every entry
-  abbrev pub Every : (X → Type 0) → List X → Type 0
-  Every P [] = Unit {0}
-  Every P (x ∷ xs) = P x × Every P xs
-
-  abbrev pub all : (X → Bool) → List X → Bool
-  all f [] = true
-  all f (x ∷ xs) = f x && all f xs
-
-  abbrev pub any : (X → Bool) → List X → Bool
-  any f [] = false
-  any f (x ∷ xs) = f x || any f xs
 
   -- the place of the first entry that passes a test of place and entry, places counted from i
   abbrev pub seek : (ℕ → X → Bool) → ℕ → List X → Option ℕ
@@ -28,19 +18,13 @@ module _ {X : Type 0} where
 
   -- f, n times over
   unfoldable pub times : ℕ → (X → X) → X → X
-  times zero f x = x
-  times (suc n) f x = times n f (f x)
+  times n f = iterate f n
 
 module _ {X Y : Type 0} where
   -- each entry by its place and content, places counted from i
   abbrev pub map_at : (ℕ → X → Y) → ℕ → List X → List Y
   map_at f i [] = []
   map_at f i (x ∷ xs) = f i x ∷ map_at f (suc i) xs
-
-  -- the lists of all entries, joined
-  abbrev pub gather : (X → List Y) → List X → List Y
-  gather f [] = []
-  gather f (x ∷ xs) = f x ++ gather f xs
 
 -- the first number from i on, of n, that passes a test
 abbrev pub seek_from : (ℕ → Bool) → ℕ → ℕ → Option ℕ

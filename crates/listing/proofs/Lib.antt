@@ -1,14 +1,10 @@
 -- Laws of this crate, in reading order.
 -- what was read
 pub mod InputLaws
--- text put into a buffer
-pub mod PutLaws
 -- numbers in decimal
 pub mod DecimalLaws
--- numbers, words and lines
+-- pieces of the text, and lines
 pub mod TextLaws
--- the lines of all atoms, and the two kinds of listing
-pub mod ListLaws
 -- refusals that can be taken apart
 pub mod SmallLaws
 -- the program's are such
@@ -17,5 +13,7 @@ pub mod RefusalLaws
 pub mod ListingLaws
 -- what is promised of it
 pub mod Listing
+-- what was read, and what is written of it
+pub mod RunLaws
 -- the examples, computed
 pub mod Examples

@@ -1,21 +1,20 @@
 -- The program's text is that of the book's refusal or of its model, and its contract admits no other. Assumes nothing.
-use mathlib.Core.Path.{◌≡◌, refl, sym, ap, ap₂, ◌∙◌}
-use mathlib.Core.List.{List, ◌++◌, map}
+use mathlib.Core.Path.{◌≡◌, refl, sym, ap, ◌∙◌}
+use mathlib.Core.List.{List, map}
 use mathlib.Core.Logic.{by_cases}
 use mathlib.Core.Option.{Option, none, some}
-use Prim.Native.Nat.{ℕ, zero, suc, ◌<◌}
+use Prim.Native.Nat.{ℕ, ◌<◌}
 use native.Mathlib.Decide.{dec_lt}
 use native.Mathlib.Omega.{arith}
-use lib.ListN.{length, drop, get_or, length-map, take, take-append-drop, get_or-append}
+use lib.ListN.{length, drop, length-map, take, get_or-append}
 use lib.Seq.{take_all}
 use contract.Lifetimes.{Lfts}
 use borrow.Fn.Kinds.{ended_of}
 use borrow.Fn.World.{ArgsD, ResD}
 use denote.Triple.Clauses.{AtExit}
 use borrow.Author.Tests.{ne_eqb}
-use Rattle.io.specs.Counts.{IsPrefixLen}
 use Rattle.meaning.specs.Format.{atom_count}
-use Rattle.meaning.specs.Reading.{code_of, truth_of}
+use Rattle.meaning.specs.Reading.{code_of}
 use Rattle.meaning.specs.Refusal.{Refusal, packed, refusal}
 use Rattle.meaning.specs.Demands.{Accepted}
 use Rattle.meaning.specs.Outcome.{model_of, written}
@@ -24,27 +23,14 @@ use Rattle.meaning.proofs.Demands.{model_length}
 use Rattle.meaning.proofs.Longer.{longer}
 use Rattle.meaning.proofs.Rooms.{accepted, refused}
 use Rattle.listing.specs.Listing.{Listing}
-use Rattle.listing.specs.Text.{answers_text, line_of, lines_of, listing_of, read_most, refused_text, room_length, text_of}
+use Rattle.listing.specs.Text.{answers_text, listing_of, read_most, refused_text, room_length, text_of}
 use Rattle.listing.specs.contracts.list.list.{signature}
 use Rattle.listing.proofs.list.list.Kinds as kinds
 use Rattle.listing.proofs.list.list.Reads as reads
+use Rattle.listing.proofs.TextLaws.{answers_same}
 use Rattle.listing.proofs.ListingLaws.{accepted_short, zeros, zeros_long}
 use Rattle.listing.proofs.SmallLaws.{number_below, packed_apart, packed_some}
 use Rattle.listing.proofs.RefusalLaws.{refusal_small}
-
--- rooms that agree on the first n bytes have the same lines
-lines_same : (room other : List ℕ) (n : ℕ) → ((a : ℕ) → a < n → get_or room a 0 ≡ get_or other a 0) →
-    lines_of room n ≡ lines_of other n
-unfolding lines_of
-lines_same room other zero h = refl
-lines_same room other (suc n) h =
-    ap₂ (λ (ls : List ℕ) (x : ℕ). ls ++ line_of n (truth_of x))
-    (lines_same room other n (λ a l. h a (omega (arith, l)))) (h n (omega arith))
-
-answers_same : (n : ℕ) (room other : List ℕ) → ((a : ℕ) → a < n → get_or room a 0 ≡ get_or other a 0) →
-    answers_text n room ≡ answers_text n other
-unfolding answers_text
-answers_same n room other h = rw (lines_same room other n h)
 
 refused_text_lem : (b : List ℕ) (r : Refusal) → refusal b room_length ≡ some r →
     listing_of b ≡ refused_text r.number r.table r.row
@@ -65,12 +51,13 @@ answered_text b e =
     (λ a m. get_or-append (map code_of (model_of b)) (drop (length (model_of b)) zeros) 0 a (omega (arith, m, l))))
 
 -- an accepted book is no longer than the largest, and a longer one has the refusal of its start
-longer_text : (b : List ℕ) → listing_of (take read_most b) ≡ listing_of b
+pub longer_text : (b : List ℕ) → listing_of (take read_most b) ≡ listing_of b
 longer_text b =
     by_cases (dec_lt 64816 (length b)) (λ l. go l (refusal b room_length) refl)
     (λ l. ap listing_of (take_all read_most b (omega (arith, l))))
   where
-    go : 64816 < length b → (o : Option Refusal) → refusal b room_length ≡ o → listing_of (take read_most b) ≡ listing_of b
+    go : 64816 < length b → (o : Option Refusal) → refusal b room_length ≡ o →
+        listing_of (take read_most b) ≡ listing_of b
     go l none e = absurd (omega (arith, l, accepted_short b e))
     go l (some r) e = refused_text_lem (take read_most b) r (longer b room_length l ∙ e) ∙ sym (refused_text_lem b r e)
 
@@ -82,28 +69,15 @@ listing = record {
   longer = longer_text;
 }
 
--- what the contract of `list` says of a call: how many bytes of the text, and what the buffer holds afterwards
-pub record Listed (b out after : List ℕ) (r : ℕ) : Type 0 where
-  pub within : IsPrefixLen r after
-  pub text : take r after ≡ listing_of b
-  pub later : drop r after ≡ drop r out
+module _ (κs : Lfts 2) where
+  -- what the contract of `list` says of a call: its text is the book's
+  pub promised : (a : ArgsD signature κs) (r : ResD signature κs) (s : AtExit (ended_of 2 kinds.ps kinds.r) κs) →
+      reads.Post κs a r s → s.1.0.now.bytes ≡ listing_of a.0.now
+  promised a r s p = p
 
-pub promised : (κs : Lfts 2) (a : ArgsD signature κs) (r : ResD signature κs)
-    (s : AtExit (ended_of 2 kinds.ps kinds.r) κs) →
-    reads.Post κs a r s → Listed a.0.now a.1.0.now s.1.0.now r
-promised κs a r s p = record { within = p.0; text = p.1.0; later = p.1.1 }
-
--- two calls that it admits write the same
-pub listed_unique : (b out after other : List ℕ) (r s : ℕ) → Listed b out after r → Listed b out other s →
-    (r ≡ s) × (after ≡ other)
-listed_unique b out after other r s P Q = (same, whole)
-  where
-    same : r ≡ s
-    same = P.within.1 ∙ ap length (P.text ∙ sym Q.text) ∙ sym Q.within.1
-
-    whole : after ≡ other
-    whole =
-        sym (take-append-drop r after) ∙
-        ap₂ (λ (x y : List ℕ). x ++ y) (P.text ∙ sym Q.text)
-        (P.later ∙ ap (λ (i : ℕ). drop i out) same ∙ sym Q.later) ∙
-        take-append-drop s other
+  -- two calls that it admits, of one book, leave the same text
+  pub listed_unique : (a other : ArgsD signature κs) (r q : ResD signature κs)
+      (s t : AtExit (ended_of 2 kinds.ps kinds.r) κs) → a.0.now ≡ other.0.now →
+      reads.Post κs a r s → reads.Post κs other q t → s.1.0.now.bytes ≡ t.1.0.now.bytes
+  listed_unique a other r q s t e first second =
+      promised a r s first ∙ ap listing_of e ∙ sym (promised other q t second)

@@ -15,9 +15,8 @@ use Rattle.meaning.proofs.Bytes.{atoms_length}
 use Rattle.meaning.proofs.Rooms.{refused, room_enough}
 use Rattle.book.specs.Framed.{Framed}
 use Rattle.checks.proofs.FrameLaws.{framed}
-use Rattle.listing.specs.Put.{Put}
 use Rattle.listing.specs.Text.{answers_text, listing_of, packed_text, room_length, text_of}
-use Rattle.listing.proofs.PutLaws.{put_start}
+use Rattle.listing.proofs.TextLaws.{answers_taken}
 use Rattle.listing.proofs.SmallLaws.{packed_some}
 use Rattle.listing.proofs.RefusalLaws.{refusal_small}
 
@@ -46,7 +45,7 @@ module _ (b : List ℕ) (e : Accepted b room_length) where
   accepted_framed =
       let t = tables b in
       let (r1, (r2, (r3, _))) = none_each (refusals b t room_length) e in
-      framed b (rw (r1, r2, r3) refl)
+      framed b (sym r1) (sym r2) (sym r3)
 
   pub accepted_long : contents ≤ length b
   accepted_long = accepted_framed.long
@@ -70,13 +69,18 @@ module _ (b : List ℕ) (e : Accepted b room_length) where
   pub accepted_few : (n : ℕ) → n ≡ atom_count b → n ≤ room_length
   accepted_few n q = omega (arith, q, atoms_length b, room_enough b room_length e)
 
-module _ (b out room after : List ℕ) (n r : ℕ) (e : n ≡ (outcome b zeros).number) where
-  pub listed_answers : (k : ℕ) → n ≡ 0 → k ≡ atom_count b → room ≡ (outcome b zeros).room →
-      Put out 0 (answers_text k room) after r → take r after ≡ listing_of b
-  unfolding text_of listing_of
-  listed_answers k z q f P =
-      put_start P ∙ rw (q, f, eq-eqb (outcome b zeros).number 0 (sym e ∙ z))
+pub ruleset accepted = (accepted_long, accepted_few)
 
-  pub listed_refused : (n ≡ 0 → ⊥) → Put out 0 (packed_text n) after r → take r after ≡ listing_of b
+-- the text for what the entry returned and left, at either number
+module _ (b : List ℕ) (n : ℕ) (e : n ≡ (outcome b zeros).number) where
+  pub listed_answers : (room : List ℕ) (k : ℕ) → n ≡ 0 → room ≡ (outcome b zeros).room → k ≡ atom_count b →
+      k ≤ length room → answers_text (length (take k room)) (take k room) ≡ listing_of b
   unfolding text_of listing_of
-  listed_refused z P = put_start P ∙ rw (e, ne_eqb (outcome b zeros).number 0 (λ y. z (e ∙ y)))
+  listed_answers room k z q f l =
+      answers_taken k room l ∙ rw (q, f, eq-eqb (outcome b zeros).number 0 (sym e ∙ z)) refl
+
+  pub listed_refused : (n ≡ 0 → ⊥) → packed_text n ≡ listing_of b
+  unfolding text_of listing_of
+  listed_refused z = rw (e, ne_eqb (outcome b zeros).number 0 (λ y. z (e ∙ y))) refl
+
+pub ruleset listed = (number_accepted, listed_answers, listed_refused)

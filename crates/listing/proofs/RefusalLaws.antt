@@ -17,7 +17,7 @@ use Rattle.meaning.specs.Refusal.{refusal8, refusal9, stray, too_many, unlisted}
 use Rattle.meaning.proofs.Bytes.{atoms_length}
 use Rattle.book.specs.Framed.{Framed}
 use Rattle.book.proofs.Counts.{comparisons_length, elements_length, hypotheses_length, predicates_length, rules_length}
-use Rattle.checks.proofs.FrameLaws.{framed}
+use Rattle.checks.proofs.CheckLaws.{passed_framed}
 use Rattle.meaning.proofs.Absent.{first_append, first_found}
 use Rattle.listing.specs.Text.{room_length}
 use Rattle.listing.proofs.SmallLaws.{AllSmall, Small, Smalls, ◌and◌, first_small, if_small, lowest_small, nil}
@@ -124,7 +124,7 @@ refusal_small b r e = go (first_of (frame_refusals b)) refl
   where
     go : (o : Option Refusal) → first_of (frame_refusals b) ≡ o → Small r
     go none p =
-        (first_small (later b room_length) (later_small b (framed b p))).each r
+        (first_small (later b room_length) (later_small b (passed_framed b (first_of (frame_refusals b)) refl p))).each r
         (sym (first_append (frame_refusals b) (later b room_length) p) ∙ e)
     go (some s) p =
         (first_small (frame_refusals b) (frame_small b)).each r

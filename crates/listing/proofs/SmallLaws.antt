@@ -9,9 +9,10 @@ use native.Mathlib.Omega.{arith}
 use lib.Dec.{ltb}
 use lib.ListN.{length}
 use borrow.Author.Tests.{lt-ltb, ltb-true}
+use Rattle.std.proofs.Math.Option.{some-ne-none}
+use Rattle.std.proofs.lemmas.Bool.{and_from, and_parts}
 use Rattle.laws.specs.Lists.{seek}
-use Rattle.laws.proofs.Searches.{seek_below, some≢none}
-use Rattle.laws.proofs.Tests.{both, left, right}
+use Rattle.laws.proofs.Searches.{seek_below}
 use Rattle.meaning.specs.Refusal.{Refusal, at_record, at_table, first_of, lowest, packed, refuse, refuse_if}
 use Rattle.listing.specs.Text.{packed_text, refused_text}
 
@@ -31,7 +32,7 @@ pub record AllSmall (o : Option Refusal) : Type 0 where
   pub each : (r : Refusal) → o ≡ some r → Small r
 
 pub none_small : AllSmall none
-none_small = record { each = λ r e. absurd (some≢none (sym e)) }
+none_small = record { each = λ r e. absurd (some-ne-none _ (sym e)) }
 
 some_small : (s : Refusal) → So (placed s.number s.table) → s.row < 1000000 → AllSmall (some s)
 some_small s p l =
@@ -60,7 +61,7 @@ table_small n f xs p l = go (seek f 0 xs) (λ k e. omega (arith, seek_below f 0 
     go : (o : Option ℕ) → ((k : ℕ) → o ≡ some k → k < 6) → AllSmall (at_table n o)
     go none h = none_small
     go (some k) h =
-        some_small (refuse n (suc k) 0) (both p (lt-ltb (suc k) 10 (omega (arith, h k refl)))) (omega arith)
+        some_small (refuse n (suc k) 0) (and_from _ _ p (lt-ltb (suc k) 10 (omega (arith, h k refl)))) (omega arith)
 
 pub lowest_small : {X : Type 0} (n t : ℕ) (f : ℕ → X → Bool) (xs : List X) → So (placed n t) → length xs ≤ 4096 →
     AllSmall (lowest n t f xs)
@@ -73,16 +74,16 @@ lowest_small n t f xs p l = go (seek f 0 xs) (λ k e. omega (arith, seek_below f
 
 module _ (r : Refusal) (S : Small r) where
   number_listed : So (numbered r.number)
-  number_listed = left (numbered r.number) (ltb r.table 10) S.place
+  number_listed = (and_parts (numbered r.number) (ltb r.table 10) S.place).0
 
   one_digit : r.table < 10
-  one_digit = ltb-true r.table 10 (right (numbered r.number) (ltb r.table 10) S.place)
+  one_digit = ltb-true r.table 10 (and_parts (numbered r.number) (ltb r.table 10) S.place).1
 
   pub number_below : r.number < 12
-  number_below = ltb-true r.number 12 (right (ltb 0 r.number) (ltb r.number 12) number_listed)
+  number_below = ltb-true r.number 12 (and_parts (ltb 0 r.number) (ltb r.number 12) number_listed).1
 
   pub packed_some : 0 < packed r
-  packed_some = omega (arith, ltb-true 0 r.number (left (ltb 0 r.number) (ltb r.number 12) number_listed))
+  packed_some = omega (arith, ltb-true 0 r.number (and_parts (ltb 0 r.number) (ltb r.number 12) number_listed).0)
 
   -- number, table and record come back
   pub packed_apart : packed_text (packed r) ≡ refused_text r.number r.table r.row

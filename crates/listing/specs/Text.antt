@@ -1,10 +1,10 @@
 -- What the listing program prints: document 01, "Examples to build against", its last part. Assumes nothing.
-use Rattle.std.specs.Prelude.{ℕ, zero, suc, ◌+◌, ◌/◌, ◌%◌, cond, List, [], ◌∷◌, ◌++◌, eqb, ltb, get_or, replicate}
-use Rattle.theory.specs.Truth.{Truth}
+use Rattle.std.specs.Prelude.{ℕ, zero, suc, ◌+◌, ◌/◌, ◌%◌, cond, eqb, ltb}
+use Rattle.std.specs.Prelude.{List, [], ◌∷◌, ◌++◌, codes, get_or, replicate}
+use Rattle.theory.specs.declared.answer.Truth.{Truth}
 use Rattle.meaning.specs.Format.{atom_count}
 use Rattle.meaning.specs.Reading.{truth_of}
 use Rattle.meaning.specs.Outcome.{Outcome, outcome}
-use Rattle.listing.specs.Ascii.{ascii}
 
 -- a digit's character: that of 0 is 48
 abbrev pub digit : ℕ → ℕ
@@ -21,13 +21,13 @@ decimal n = decimal_in n n
 
 -- the words for answers
 abbrev pub word_of : Truth → List ℕ
-word_of Truth.undefined = ascii "undefined"
-word_of Truth.true = ascii "true"
-word_of Truth.false = ascii "false"
+word_of Truth.Undefined = codes "undefined"
+word_of Truth.True = codes "true"
+word_of Truth.False = codes "false"
 
 -- atom index and answer
 unfoldable pub line_of : ℕ → Truth → List ℕ
-line_of a x = decimal a ++ ascii " " ++ word_of x ++ ascii "\n"
+line_of a x = decimal a ++ codes " " ++ word_of x ++ codes "\n"
 
 -- the lines of the first n atoms, in index order, of a room that holds the answers
 unfoldable pub lines_of : List ℕ → ℕ → List ℕ
@@ -36,11 +36,11 @@ lines_of room (suc a) = lines_of room a ++ line_of a (truth_of (get_or room a 0)
 
 -- First the number of atoms; then atom index and answer, in index order.
 unfoldable pub answers_text : ℕ → List ℕ → List ℕ
-answers_text n room = ascii "answers " ++ decimal n ++ ascii "\n" ++ lines_of room n
+answers_text n room = codes "answers " ++ decimal n ++ codes "\n" ++ lines_of room n
 
 -- a number after a single space
 unfoldable pub spaced : ℕ → List ℕ
-spaced n = ascii " " ++ decimal n
+spaced n = codes " " ++ decimal n
 
 -- a place is a table number and a record
 unfoldable pub place_text : ℕ → ℕ → List ℕ
@@ -48,7 +48,7 @@ place_text table row = spaced table ++ spaced row
 
 -- A refused book gives one line: `refused`, number, table, record, with single spaces.
 unfoldable pub refused_text : ℕ → ℕ → ℕ → List ℕ
-refused_text number table row = ascii "refused" ++ spaced number ++ place_text table row ++ ascii "\n"
+refused_text number table row = codes "refused" ++ spaced number ++ place_text table row ++ codes "\n"
 
 -- a packed refusal, number × 10,000,000 + table × 1,000,000 + record, taken apart
 abbrev pub packed_text : ℕ → List ℕ

@@ -1,5 +1,6 @@
--- How many bytes the program's texts take at most, so that a buffer is long enough. Assumes nothing.
-use Rattle.std.specs.Prelude.{ℕ, ◌+◌}
+-- How many bytes the program's texts take at most, so that its text has room for them. Assumes nothing.
+use Rattle.std.specs.Prelude.{ℕ, ◌+◌, ◌≤◌}
+use Rattle.arrayvec.specs.ArrayString.{ArrayString, array_string_len}
 
 -- a number of 64 bits
 abbrev pub number_most : ℕ
@@ -28,3 +29,11 @@ head_most = 8 + number_most + 1
 -- the line of a refused one
 abbrev pub refused_most : ℕ
 refused_most = 7 + spaced_most + place_most + 1
+
+-- the whole text
+abbrev pub text_most : ℕ
+text_most = 65536
+
+-- so many bytes more fit into the text
+abbrev pub HasRoom : ArrayString → ℕ → Type 0
+HasRoom text more = array_string_len text + more ≤ text_most

@@ -1,68 +1,65 @@
-// Numbers, places, words and lines, each put into a buffer at a place; the place after it comes back.
-ghost use Rattle.std.specs.Prelude.{◌+◌, ◌≤◌, length};
+// Numbers, words and lines, each put at the end of the program's text. `write!` would put them as well, but no contract
+// says that it succeeds where there is room: so each is pushed.
+ghost use Rattle.std.specs.Prelude.{◌≡◌, ◌+◌, ◌≤◌, ◌++◌, length};
+ghost use Rattle.arrayvec.specs.ArrayString.{array_string_len};
 ghost use Rattle.meaning.specs.Reading.{truth_of};
-ghost use Rattle.listing.specs.Put.{Put};
-ghost use Rattle.listing.specs.Text.{decimal, line_of, place_text, spaced, word_of};
-ghost use Rattle.listing.specs.Widths.{line_most, number_most, place_most, spaced_most, word_most};
+ghost use Rattle.listing.specs.Text.{line_of, refused_text, spaced, word_of};
+ghost use Rattle.listing.specs.Widths.{HasRoom, line_most, refused_most, spaced_most, word_most};
 
-pub fn put(out: &mut [u8], at: usize, text: &[u8]) -> usize
-    requires { at + length text.now ≤ length out.old }
-    ensures { Put out.old at text.now out.new result }
-{
-    let mut i = 0;
-    while i < text.len() {
-        out[at + i] = text[i];
-        i += 1;
-    }
-    at + text.len()
-}
+use arrayvec::ArrayString;
+use itoa::Buffer;
+use theory::answer::Truth;
 
-pub fn put_number(out: &mut [u8], at: usize, n: u64) -> usize
-    requires { at + number_most ≤ length out.old }
-    ensures { Put out.old at (decimal n) out.new result × (result ≤ at + number_most) }
-{
-    let mut digits = [0u8; 20];
-    let k = io::decimal(n, &mut digits);
-    put(out, at, &digits[..k])
-}
+// The text is always long enough: a first line of at most 29 bytes, and 2,048 lines of at most 31.
+const TEXT: usize = 65536;
+
+pub type Text = ArrayString<TEXT>;
 
 // A number after a single space.
-pub fn put_spaced(out: &mut [u8], at: usize, n: u64) -> usize
-    requires { at + spaced_most ≤ length out.old }
-    ensures { Put out.old at (spaced n) out.new result × (result ≤ at + spaced_most) }
+#[tactic(auto, using(crate::proofs::TextLaws::pieces), unfolding(crate::specs::Text::spaced))]
+fn put_spaced(text: &mut Text, n: u32)
+    requires { HasRoom text.old spaced_most }
+    ensures spaced { text.new.bytes ≡ text.old.bytes ++ spaced n }
+    ensures short { array_string_len text.new ≤ array_string_len text.old + spaced_most }
 {
-    let number = put(out, at, b" ");
-    put_number(out, number, n)
+    text.push_str(" ");
+    text.push_str(Buffer::new().format(n));
 }
 
-// A place: table and record.
-pub fn put_place(out: &mut [u8], at: usize, table: u64, row: u64) -> usize
-    requires { at + place_most ≤ length out.old }
-    ensures { Put out.old at (place_text table row) out.new result × (result ≤ at + place_most) }
+// One line: a refusal's number, and its place, table and record.
+#[tactic(auto, unfolding(crate::specs::Text::place_text, crate::specs::Text::refused_text))]
+pub fn put_refused(text: &mut Text, number: u32, table: u32, row: u32)
+    requires { HasRoom text.old refused_most }
+    ensures { text.new.bytes ≡ text.old.bytes ++ refused_text number table row }
 {
-    let end = put_spaced(out, at, table);
-    put_spaced(out, end, row)
+    text.push_str("refused");
+    put_spaced(text, number);
+    put_spaced(text, table);
+    put_spaced(text, row);
+    text.push_str("\n");
 }
 
 // The word for an answer.
-fn put_word(out: &mut [u8], at: usize, answer: u8) -> usize
-    requires { at + word_most ≤ length out.old }
-    ensures { Put out.old at (word_of (truth_of answer)) out.new result × (result ≤ at + word_most) }
+fn word(answer: Truth) -> &'static str
+    ensures word { result.now ≡ word_of answer }
+    ensures short { length result.now ≤ word_most }
 {
     match answer {
-        1 => put(out, at, b"true"),
-        2 => put(out, at, b"false"),
-        _ => put(out, at, b"undefined"),
+        Truth::Undefined => "undefined",
+        Truth::True => "true",
+        Truth::False => "false",
     }
 }
 
-// One line: an atom's index and its answer.
-pub fn put_line(out: &mut [u8], at: usize, a: u64, answer: u8) -> usize
-    requires { at + line_most ≤ length out.old }
-    ensures { Put out.old at (line_of a (truth_of answer)) out.new result × (result ≤ at + line_most) }
+// One line: an atom's index and its answer, a byte of the room.
+#[tactic(auto, using(crate::proofs::TextLaws::pieces), unfolding(crate::specs::Text::line_of))]
+pub fn put_line(text: &mut Text, atom: usize, answer: u8)
+    requires { HasRoom text.old line_most }
+    ensures line { text.new.bytes ≡ text.old.bytes ++ line_of atom (truth_of answer) }
+    ensures short { array_string_len text.new ≤ array_string_len text.old + line_most }
 {
-    let space = put_number(out, at, a);
-    let word = put(out, space, b" ");
-    let end = put_word(out, word, answer);
-    put(out, end, b"\n")
+    text.push_str(Buffer::new().format(atom));
+    text.push_str(" ");
+    text.push_str(word(Truth::from(answer)));
+    text.push_str("\n");
 }

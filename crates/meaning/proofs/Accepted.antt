@@ -11,17 +11,25 @@ use lib.Dec.{eqb, leb, ltb}
 use lib.ListN.{length, get_or, length-map, take}
 use lib.Seq.{get_or-take, length-take-le}
 use borrow.Author.Tests.{eq-eqb, leb-false, ltb-false, ne_eqb, not-false}
+use Rattle.std.proofs.lemmas.Bool.{both_ways, or_parts}
+use Rattle.std.proofs.lemmas.List.{get_or-map}
 use Rattle.laws.specs.Lists.{In}
-use Rattle.laws.proofs.Tests.{and_fails, either_fails, test-clash}
-use Rattle.laws.proofs.Entries.{any_none, gather_in, get_or_in, in_drop, in_take, map_at_lem, map_in}
+use Rattle.laws.proofs.Tests.{and_fails}
+use Rattle.laws.proofs.Entries.{any_none, gather_in, get_or_in, in_drop, in_take, map_in}
 use Rattle.laws.proofs.Places.{place_in}
-use Rattle.theory.specs.Truth.{Truth}
-use Rattle.meaning.specs.Format.{Atom, ComparisonRecord, HypothesisRecord, Predicate, RuleRecord, Tables, tables}
+use Rattle.theory.specs.declared.answer.Truth.{Truth}
+use Rattle.meaning.specs.Format.{Tables, tables}
+use Rattle.meaning.specs.declared.records.Atom.{Atom}
+use Rattle.meaning.specs.declared.records.ComparisonRecord.{ComparisonRecord}
+use Rattle.meaning.specs.declared.records.HypothesisRecord.{HypothesisRecord}
+use Rattle.meaning.specs.declared.records.Predicate.{Predicate}
+use Rattle.meaning.specs.declared.records.RuleRecord.{RuleRecord}
 use Rattle.meaning.specs.Format.{no_atom, no_comparison, no_element, no_hypothesis, no_predicate, no_rule}
-use Rattle.meaning.specs.Reading.{Kind, Rule, atom_of, comparison_of, element_of, elements_of, given_in, given_of}
-use Rattle.meaning.specs.Reading.{hypothesis_in, hypothesis_of, is_certain, is_open, kind_at, kind_in, kind_of, level_at}
-use Rattle.meaning.specs.Reading.{level_count, level_in, levels_of, literal_of, predicate_of, range, reading, rule_of}
-use Rattle.meaning.specs.Reading.{truth_of}
+use Rattle.meaning.specs.Reading.{Rule, atom_of, comparison_of, element_of, elements_of, given_in, given_of}
+use Rattle.meaning.specs.declared.codes.Kind.{Kind}
+use Rattle.meaning.specs.Reading.{hypothesis_in, hypothesis_of, is_certain, is_open, kind_at, kind_in, kind_of}
+use Rattle.meaning.specs.Reading.{level_at, level_count, level_in, levels_of, literal_of, predicate_of, range, reading}
+use Rattle.meaning.specs.Reading.{rule_of, truth_of}
 use Rattle.meaning.specs.Refusal.{Use, concluded, element_use, given_wrongly, mixed, mixed_below, own_non_positive}
 use Rattle.meaning.specs.Refusal.{refusal, refusal10, refusal11, refusal4, refusal5, refusal7, refusal8, refusal9}
 use Rattle.meaning.specs.Refusal.{refusals, stray, stray_atom, stray_element, stray_hypothesis, stray_rule, unlisted}
@@ -36,7 +44,7 @@ in_range : {X : Type 0} (first many : ℕ) (xs : List X) (x : X) → In x (range
 in_range first many xs x i = in_take (first + many) xs x (in_drop first (take (first + many) xs) x i)
 
 -- a literal is of its atom, whatever its sign
-literal_atom : (sign a : ℕ) → atom_of (literal_of sign a) ≡ a
+pub literal_atom : (sign a : ℕ) → atom_of (literal_of sign a) ≡ a
 literal_atom zero a = refl
 literal_atom (suc sign) a = refl
 
@@ -59,15 +67,15 @@ module _ (t : Tables) where
 
   pub kind_at_lem : (a : ℕ) → a < length t.atoms → kind_at (reading t).kinds a ≡ kind_in t (atom_at a)
   unfolding reading
-  kind_at_lem a l = map_at_lem (kind_in t) no_atom Kind.«open» t.atoms a l
+  kind_at_lem a l = get_or-map (kind_in t) t.atoms a no_atom Kind.Open l
 
   pub level_at_lem : (a : ℕ) → a < length t.atoms → level_at (levels_of t) a ≡ level_in t (atom_at a)
   unfolding levels_of
-  level_at_lem a l = map_at_lem (level_in t) no_atom level_count t.atoms a l
+  level_at_lem a l = get_or-map (level_in t) t.atoms a no_atom level_count l
 
   pub given_at_lem : (a : ℕ) → a < length t.atoms → answers_of (given_of t) a ≡ given_in (atom_at a)
   unfolding given_of
-  given_at_lem a l = map_at_lem given_in no_atom Truth.undefined t.atoms a l
+  given_at_lem a l = get_or-map given_in t.atoms a no_atom Truth.Undefined l
 
   -- where a rule as read and its uses come from
   rule_of_lem : (r : Rule) → In r (reading t).rules → (x : RuleRecord) × In x t.rules × (rule_of t x ≡ r)
@@ -113,7 +121,7 @@ module _ (t : Tables) (A : Absent t) where
   predicate_low p i =
       let (e, _) = none_each (unlisted t) A.codes in
       let (_, f) = clear_entry 4 1 unlisted_predicate no_predicate t.predicates e p i in
-      let l : p.level ≤ 127 = ltb-false 127 p.level (either_fails (ltb 3 p.kind) _ f).1 in
+      let l : p.level ≤ 127 = ltb-false 127 p.level (or_parts (ltb 3 p.kind) _ f).1 in
       omega (arith, l)
 
   -- 5: indices stand in their tables
@@ -134,7 +142,7 @@ module _ (t : Tables) (A : Absent t) where
       let (_, (e, _)) = none_each (stray t) A.indices in
       let (x, j, q) = rule_of_lem t r i in
       let (_, f) = clear_entry 5 3 (stray_rule atoms (length t.hypotheses)) no_rule t.rules e x j in
-      let l : x.head < atoms = leb-false atoms x.head (either_fails (leb atoms x.head) _ f).0 in
+      let l : x.head < atoms = leb-false atoms x.head (or_parts (leb atoms x.head) _ f).0 in
       subst (λ (y : Rule). y.head < atoms) q l
 
   -- by sort: the index is an atom's, or a comparison's, whose elements speak of atoms that are there
@@ -170,15 +178,13 @@ module _ (t : Tables) (A : Absent t) where
 
   -- what it says, `g` for a given byte of 0, `o` for an open atom, `c` for one that a rule concludes
   wrongly : (g o c : Bool) → (not g && (not o || c)) ≡ false → g ≡ false → So o × (c ≡ false)
-  wrongly true o c f e = absurd (false≢true (sym e))
-  wrongly false true c f e = (refl, f)
-  wrongly false false c f e = absurd (false≢true (sym f))
+  wrongly g o c f e = let (p, q) = or_parts (not o) c (rw e at f) in (not-false o p, q)
 
   -- so what is given is given to an open atom that no rule concludes
-  given_clean : (a : ℕ) → (answers_of (given_of t) a ≡ Truth.undefined → ⊥) →
+  given_clean : (a : ℕ) → (answers_of (given_of t) a ≡ Truth.Undefined → ⊥) →
       So (is_open (kind a)) × (concluded (reading t) a ≡ false)
   given_clean a n =
-      let l : a < atoms = omega (arith, place_in Truth.undefined (given_of t) a n, given_length t) in
+      let l : a < atoms = omega (arith, place_in Truth.Undefined (given_of t) a n, given_length t) in
       wrongly (eqb (atom_at t a).given 0) (is_open (kind a)) (concluded (reading t) a) (given_clear a l)
       (ne_eqb (atom_at t a).given 0 (λ z. n (given_at_lem t a l ∙ ap truth_of z)))
 
@@ -241,7 +247,7 @@ module _ (t : Tables) (A : Absent t) where
     use_in = λ r i u j. omega (arith, use_in r i u j, levels_length t);
     given_open = λ a n. open_of (kind a) (given_clean a n).0;
     given_free = λ a n r i e.
-        test-clash (eq-eqb r.head a e) (any_none (λ r. eqb r.head a) (reading t).rules (given_clean a n).1 r i);
+        both_ways _ (any_none (λ r. eqb r.head a) (reading t).rules (given_clean a n).1 r i) (eq-eqb r.head a e);
     pure = λ a b la lb e c.
         let ka : a < atoms = omega (arith, la, levels_length t) in
         let kb : b < atoms = omega (arith, lb, levels_length t) in

@@ -8,7 +8,8 @@ use native.Mathlib.Decide.{dec_lt}
 use native.Mathlib.Omega.{arith}
 use lib.ListN.{length}
 use lib.Seq.{ext_get_or}
-use Rattle.theory.specs.Truth.{Truth, ◌≼◌}
+use Rattle.theory.specs.Truth.{◌≼◌}
+use Rattle.theory.specs.declared.answer.Truth.{Truth}
 use Rattle.theory.specs.Answers.{◌⊑◌}
 use Rattle.meaning.specs.Format.{Tables, tables}
 use Rattle.meaning.specs.Reading.{code_of, given_of, levels_of, reading}
@@ -92,9 +93,9 @@ module _ (c : Call) (is : Answered c) where
 
 -- the code of an answer that is kept
 code_kept : (x y : Truth) → x ≼ y → (code_of x ≡ 0 → ⊥) → code_of y ≡ code_of x
-code_kept Truth.undefined y p n = absurd (n refl)
-code_kept Truth.true y p n = ap code_of (p.0 refl)
-code_kept Truth.false y p n = ap code_of (p.1 refl)
+code_kept Truth.Undefined y p n = absurd (n refl)
+code_kept Truth.True y p n = ap code_of (p.0 refl)
+code_kept Truth.False y p n = ap code_of (p.1 refl)
 
 -- demand 3, of two calls that are answered
 pub kept : (c c' : Call) → Answered c → Answered c' → More c c' → Keeps c c'

@@ -4,7 +4,8 @@ use mathlib.Core.Bool.{So, not, false≢true}
 use mathlib.Core.List.{List}
 use Rattle.laws.specs.Lists.{In}
 use Rattle.laws.proofs.Tests.{not_of}
-use Rattle.theory.specs.Truth.{Truth, is_true, is_false}
+use Rattle.theory.specs.Truth.{is_true, is_false}
+use Rattle.theory.specs.declared.answer.Truth.{Truth}
 use Rattle.theory.specs.Answers.{Answers}
 use Rattle.meaning.specs.Reading.{Element}
 use Rattle.meaning.specs.Truth.{definite, element_truth, possible}
@@ -21,9 +22,9 @@ pub definite_possible : (A : Answers) (e : Element) → So (definite A e) → So
 definite_possible A e = go (element_truth A e)
   where
     go : (x : Truth) → So (is_true x) → So (not (is_false x))
-    go Truth.undefined t = refl
-    go Truth.true t = refl
-    go Truth.false t = absurd (false≢true t)
+    go Truth.Undefined t = refl
+    go Truth.True t = refl
+    go Truth.False t = absurd (false≢true t)
 
 module _ (A B : Answers) (es : List Element) where
   -- P holds of each element that stops being true; of each that stops being false

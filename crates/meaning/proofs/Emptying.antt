@@ -6,8 +6,14 @@ use mathlib.Core.Bool as B
 use mathlib.Core.List.{List, [], ◌∷◌}
 use lib.IntN.{pos}
 use lib.Signed.{lt_z}
-use Rattle.theory.specs.Truth.{Truth, false, true, undefined}
-use Rattle.meaning.specs.Reading.{Aggregate, Comparison, Literal, Reading, Relation, closed, negated, plain}
+use Rattle.theory.specs.declared.answer.Truth.TheVariants.{False, True, Undefined}
+use Rattle.theory.specs.declared.answer.Truth.{Truth}
+use Rattle.meaning.specs.Reading.{Comparison, Reading}
+use Rattle.meaning.specs.declared.codes.Literal.{Literal}
+use Rattle.meaning.specs.declared.codes.Literal.TheVariants.{Negated, Plain}
+use Rattle.meaning.specs.declared.codes.Aggregate.{Aggregate}
+use Rattle.meaning.specs.declared.codes.Relation.{Relation}
+use Rattle.meaning.specs.declared.codes.Kind.TheVariants.{Closed}
 use Rattle.meaning.specs.Truth.{all_possible, comparison_truth, related}
 use Rattle.meaning.specs.Model.{answers_of, derived, falls, model, round, unfounded}
 use Rattle.meaning.specs.Examples.Notation.{◌for◌, ◌⇐◌, is}
@@ -27,43 +33,44 @@ at answer c = comparison_truth (answers_of (answer ∷ [])) c
 -- before b is false either. So it is true only if b counts as false first, and within a certain level b may yet become
 -- true: that is what refusal 10 excludes.
 pub record Emptied (c : Comparison) : Type 0 where
-  pub before : at undefined c ≡ undefined
-  pub counted_false : at false c ≡ true
-  pub once_true : at true c ≡ undefined
+  pub before : at Undefined c ≡ Undefined
+  pub counted_false : at False c ≡ True
+  pub once_true : at True c ≡ Undefined
 
 -- max{1: not b} ≤ 3 and < 3
-pub max_le : Emptied (single Aggregate.max 1 negated Relation.le 3)
+pub max_le : Emptied (single Aggregate.Max 1 Negated Relation.Le 3)
 unfolding everything
 max_le = record { before = refl; counted_false = refl; once_true = refl }
 
-pub max_lt : Emptied (single Aggregate.max 1 negated Relation.lt 3)
+pub max_lt : Emptied (single Aggregate.Max 1 Negated Relation.Lt 3)
 unfolding everything
 max_lt = record { before = refl; counted_false = refl; once_true = refl }
 
 -- min{5: not b} ≥ 3 and > 3
-pub min_ge : Emptied (single Aggregate.min 5 negated Relation.ge 3)
+pub min_ge : Emptied (single Aggregate.Min 5 Negated Relation.Ge 3)
 unfolding everything
 min_ge = record { before = refl; counted_false = refl; once_true = refl }
 
-pub min_gt : Emptied (single Aggregate.min 5 negated Relation.gt 3)
+pub min_gt : Emptied (single Aggregate.Min 5 Negated Relation.Gt 3)
 unfolding everything
 min_gt = record { before = refl; counted_false = refl; once_true = refl }
 
 -- Max ≠ asks for a definite element. Without that, max{5: q} ≠ 3 would be true while q is undefined, since no possible
 -- weight is 3; then q false empties the set, there is no max, and the answer would be taken back.
 abbrev pub not_three : Comparison
-not_three = single Aggregate.max 5 plain Relation.ne 3
+not_three = single Aggregate.Max 5 Plain Relation.Ne 3
 
 -- no possible weight is 3
 abbrev pub none_is_three : Truth → B.Bool
-none_is_three answer = all_possible (λ w. related lt_z Relation.ne w (pos 3)) (answers_of (answer ∷ [])) not_three.elements
+none_is_three answer =
+    all_possible (λ w. related lt_z Relation.Ne w (pos 3)) (answers_of (answer ∷ [])) not_three.elements
 
 -- the test that passes, and what the comparison comes to as q is not given, given true and given false
 pub record NotThree : Type 0 where
-  pub passes : none_is_three undefined ≡ B.true
-  pub not_given : at undefined not_three ≡ undefined
-  pub given_true : at true not_three ≡ true
-  pub given_false : at false not_three ≡ undefined
+  pub passes : none_is_three Undefined ≡ B.true
+  pub not_given : at Undefined not_three ≡ Undefined
+  pub given_true : at True not_three ≡ True
+  pub given_false : at False not_three ≡ Undefined
 
 -- so it is
 pub max_ne : NotThree
@@ -73,7 +80,7 @@ max_ne = record { passes = refl; not_given = refl; given_true = refl; given_fals
 -- Slip 3: for closed p ← p, "p true" reproduces itself too. Where p is true its rule derives it, nothing makes it false
 -- and a round changes nothing; yet the model has p false.
 abbrev pub itself : Reading
-itself = record { rules = 0 ⇐ is 0 ∷ []; kinds = closed ∷ [] }
+itself = record { rules = 0 ⇐ is 0 ∷ []; kinds = Closed ∷ [] }
 
 -- p stands at level 0
 abbrev pub levels : List ℕ
@@ -81,14 +88,14 @@ levels = 0 ∷ []
 
 -- answers with p true
 abbrev pub claimed : List Truth
-claimed = true ∷ []
+claimed = True ∷ []
 
 -- what they have, and what the model has
 pub record Reproduced : Type 0 where
   pub derives : derived itself (answers_of claimed) 0 ≡ B.true
   pub keeps : falls itself claimed (unfounded itself levels 0 claimed) 0 ≡ B.false
   pub repeats : round itself levels 0 claimed ≡ claimed
-  pub modelled : model itself levels (undefined ∷ []) ≡ false ∷ []
+  pub modelled : model itself levels (Undefined ∷ []) ≡ False ∷ []
 
 -- so it is
 pub slip3 : Reproduced

@@ -9,9 +9,10 @@ use native.Mathlib.Omega.{arith}
 use lib.Dec.{eqb}
 use lib.ListN.{length}
 use borrow.Author.Tests.{eqb-true, le-ltb}
-use Rattle.laws.proofs.Tests.{fails_of}
+use Rattle.std.proofs.lemmas.Bool.{false_from_ne_true}
 use Rattle.laws.proofs.Entries.{none_any}
-use Rattle.meaning.specs.Format.{Atom, Tables, start, tables, no_atom}
+use Rattle.meaning.specs.Format.{Tables, start, tables, no_atom}
+use Rattle.meaning.specs.declared.records.Atom.{Atom}
 use Rattle.meaning.specs.Reading.{elements_of, is_open, kind_at, reading}
 use Rattle.meaning.specs.Refusal.{concluded, given_wrongly, lowest, misplaced, refusal, refusal1, refusal12}
 use Rattle.meaning.specs.Refusal.{refusal2, refusal3, refusal4, refusal5, refusal6, refusal7, refusal8, refusals}
@@ -106,7 +107,7 @@ module _ (b b' : List ℕ) (G : Gives b b') where
       free : {i a : ℕ} → Gift b b' i a → concluded (reading t) a ≡ false
       free {i} {a} g =
           none_any (λ r. eqb r.head a) (reading t).rules
-          (λ r j. fails_of (eqb r.head a) (λ e. g.unconcluded r j (eqb-true r.head a e)))
+          (λ r j. false_from_ne_true (eqb r.head a) (λ e. g.unconcluded r j (eqb-true r.head a e)))
 
       clean : (a : ℕ) → a < length t'.atoms → given_wrongly (reading t) a (atom_at t' a) ≡ false
       clean a l =

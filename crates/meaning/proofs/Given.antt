@@ -8,12 +8,16 @@ use native.Mathlib.Omega.{arith}
 use native.Mathlib.Decide.{dec_lt}
 use lib.ListN.{length, get_or, drop, length-map}
 use lib.Seq.{ext_get_or, get_or-drop}
-use Rattle.laws.proofs.Entries.{map_at_lem}
-use Rattle.laws.proofs.Places.{get_or_out}
-use Rattle.theory.specs.Truth.{Truth}
+use Rattle.std.proofs.lemmas.List.{get_or-map, get_or_past}
+use Rattle.theory.specs.declared.answer.Truth.{Truth}
 use Rattle.theory.specs.Answers.{◌⊑◌}
 use Rattle.theory.proofs.Truth.{undefined_false, undefined_true, ≼_refl}
-use Rattle.meaning.specs.Format.{Atom, ComparisonRecord, HypothesisRecord, Predicate, RuleRecord, Tables, atom_at}
+use Rattle.meaning.specs.Format.{Tables, atom_at}
+use Rattle.meaning.specs.declared.records.Atom.{Atom}
+use Rattle.meaning.specs.declared.records.ComparisonRecord.{ComparisonRecord}
+use Rattle.meaning.specs.declared.records.HypothesisRecord.{HypothesisRecord}
+use Rattle.meaning.specs.declared.records.Predicate.{Predicate}
+use Rattle.meaning.specs.declared.records.RuleRecord.{RuleRecord}
 use Rattle.meaning.specs.Format.{atom_count, body, comparison_at, element_at, hypothesis_at, no_atom, no_comparison}
 use Rattle.meaning.specs.Format.{predicate_at, predicate_count, rule_at, sizes, start, tables}
 use Rattle.meaning.specs.Reading.{Hypothesis, Reading, Rule, comparison_of, elements_of, given_of, hypothesis_of}
@@ -74,8 +78,8 @@ module _ (t t' : Tables) (A : Alike t t') where
       ext_get_or (g no_atom) (map f t'.atoms) (map g t.atoms) long
       (λ a l.
       let k : a < length t.atoms = omega (arith, l, length-map t'.atoms f, A.long) in
-      map_at_lem f no_atom (g no_atom) t'.atoms a (omega (arith, k, A.long)) ∙ h a k ∙
-      sym (map_at_lem g no_atom (g no_atom) t.atoms a k))
+      get_or-map f t'.atoms a no_atom (g no_atom) (omega (arith, k, A.long)) ∙ h a k ∙
+      sym (get_or-map g t.atoms a no_atom (g no_atom) k))
 
   -- an atom has the same predicate in both
   predicate_same : (a : ℕ) → a < length t.atoms → predicate_of t' (new a) ≡ predicate_of t (old a)
@@ -174,7 +178,8 @@ module _ (b b' : List ℕ) (G : Gives b b') where
   given_first : (a : ℕ) → a < atom_count b → (get_or t.atoms a no_atom).given ≡ get_or b (place a + 2) 0
   given_first a l = ap (λ (x : Atom). x.given) (atom_first a l) ∙ get_or-drop (place a) b 2 0
 
-  pub given_second : (a : ℕ) → a < atom_count b → (get_or t'.atoms a no_atom).given ≡ get_or b' (start b 1 + 3 * a + 2) 0
+  pub given_second : (a : ℕ) → a < atom_count b →
+      (get_or t'.atoms a no_atom).given ≡ get_or b' (start b 1 + 3 * a + 2) 0
   given_second a l = ap (λ (x : Atom). x.given) (atom_second a l) ∙ get_or-drop (place a) b' 2 0
 
   -- what is given of an atom stays, or is a gift
@@ -197,6 +202,6 @@ module _ (b b' : List ℕ) (G : Gives b b') where
       (λ g. let z : (get_or t.atoms a no_atom).given ≡ 0 = given_first a l ∙ g.before in
       rw z (λ e. absurd (undefined_true refl e), λ e. absurd (undefined_false refl e))) (given_either a l)))
       (λ out.
-      let z : answers_of (given_of t) a ≡ Truth.undefined =
-      get_or_out Truth.undefined (given_of t) a (omega (arith, out, given_length t, atoms_length b)) in
+      let z : answers_of (given_of t) a ≡ Truth.Undefined =
+      get_or_past (given_of t) a Truth.Undefined (omega (arith, out, given_length t, atoms_length b)) in
       (λ e. absurd (undefined_true z e), λ e. absurd (undefined_false z e)))

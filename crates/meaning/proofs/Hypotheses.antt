@@ -5,12 +5,16 @@ use mathlib.Core.Path.{◌≡◌, refl, ap}
 use mathlib.Core.Logic.{inl}
 use mathlib.Core.Bool.{Bool, true, false, not, So, false≢true}
 use mathlib.Core.List.{List}
+use Rattle.std.proofs.lemmas.Bool.{both_ways}
 use Rattle.laws.specs.Lists.{In}
-use Rattle.laws.proofs.Tests.{by-test, not_map, test-clash}
+use Rattle.laws.proofs.Tests.{by-test, not_map}
 use Rattle.laws.proofs.Entries.{in_map}
-use Rattle.theory.specs.Truth.{Truth, is_true, is_false, ◌≼◌}
+use Rattle.theory.specs.Truth.{is_true, is_false, ◌≼◌}
+use Rattle.theory.specs.declared.answer.Truth.{Truth}
 use Rattle.theory.specs.Answers.{Answers, Atoms, wipe}
-use Rattle.meaning.specs.Reading.{Comparison, Element, Hypothesis, Literal, Relation, atom_of}
+use Rattle.meaning.specs.Reading.{Comparison, Element, Hypothesis, atom_of}
+use Rattle.meaning.specs.declared.codes.Literal.{Literal}
+use Rattle.meaning.specs.declared.codes.Relation.{Relation}
 use Rattle.meaning.specs.Truth.{comparison_truth, decided, element_truth, holds, hypothesis_truth, literal_truth}
 use Rattle.meaning.specs.Truth.{opposite}
 use Rattle.meaning.specs.Refusal.{Use, element_use, grows, positive_in, shrinks, uses_of}
@@ -26,15 +30,15 @@ Reads (Hypothesis.comparison c) a = (e : Element) × In e c.elements × (atom_of
 -- what it reads it uses
 pub uses_reads : (h : Hypothesis) (a : ℕ) → Reads h a → (u : Use) × In u (uses_of h) × (u.atom ≡ a)
 unfolding uses_of
-uses_reads (Hypothesis.literal (Literal.plain b)) a q = (_, inl refl, q)
-uses_reads (Hypothesis.literal (Literal.negated b)) a q = (_, inl refl, q)
+uses_reads (Hypothesis.literal (Literal.Plain b)) a q = (_, inl refl, q)
+uses_reads (Hypothesis.literal (Literal.Negated b)) a q = (_, inl refl, q)
 uses_reads (Hypothesis.comparison c) a (e, i, q) = (element_use c e, in_map (element_use c) c.elements e i, q)
 
 -- a literal keeps its truth if its atom does
 literal_local : (A B : Answers) (l : Literal) → A (atom_of l) ≼ B (atom_of l) → literal_truth A l ≼ literal_truth B l
 unfolding literal_truth
-literal_local A B (Literal.plain a) p = p
-literal_local A B (Literal.negated a) p = flip-≼ (A a) (B a) p
+literal_local A B (Literal.Plain a) p = p
+literal_local A B (Literal.Negated a) p = flip-≼ (A a) (B a) p
 
 -- elements whose literals keep their truth
 module _ (A B : Answers) (es : List Element)
@@ -48,17 +52,17 @@ module _ (A B : Answers) (es : List Element)
       (λ f. ap is_false ((keeps e i).1 (false_of (element_truth A e) f)))
 
 -- what a decision says, and what makes it false
-decided_true : (t f : Bool) → decided t f ≡ Truth.true → So t
+decided_true : (t f : Bool) → decided t f ≡ Truth.True → So t
 decided_true true f e = refl
 decided_true false true e = absurd (clash e refl)
 decided_true false false e = absurd (undefined_true refl e)
 
-decided_false : (t f : Bool) → decided t f ≡ Truth.false → So f
+decided_false : (t f : Bool) → decided t f ≡ Truth.False → So f
 decided_false true f e = absurd (clash refl e)
 decided_false false true e = refl
 decided_false false false e = absurd (undefined_false refl e)
 
-false_decided : (t f : Bool) → (So t → So f → ⊥) → So f → decided t f ≡ Truth.false
+false_decided : (t f : Bool) → (So t → So f → ⊥) → So f → decided t f ≡ Truth.False
 false_decided true f n p = absurd (n refl p)
 false_decided false f n p = rw p
 
@@ -71,19 +75,19 @@ module _ (A : Answers) (c : Comparison) where
   pub comparison_clash : So (holds_of A c c.relation) → So (holds_of A c (opposite c.relation)) → ⊥
   comparison_clash = holds_clash A c.aggregate c.relation c.elements c.bound
 
-  pub comparison_true→ : comparison_truth A c ≡ Truth.true → So (holds_of A c c.relation)
+  pub comparison_true→ : comparison_truth A c ≡ Truth.True → So (holds_of A c c.relation)
   unfolding comparison_truth
   comparison_true→ = decided_true (holds_of A c c.relation) (holds_of A c (opposite c.relation))
 
-  pub →comparison_true : So (holds_of A c c.relation) → comparison_truth A c ≡ Truth.true
+  pub →comparison_true : So (holds_of A c c.relation) → comparison_truth A c ≡ Truth.True
   unfolding comparison_truth
   →comparison_true t = rw t
 
-  pub comparison_false→ : comparison_truth A c ≡ Truth.false → So (holds_of A c (opposite c.relation))
+  pub comparison_false→ : comparison_truth A c ≡ Truth.False → So (holds_of A c (opposite c.relation))
   unfolding comparison_truth
   comparison_false→ = decided_false (holds_of A c c.relation) (holds_of A c (opposite c.relation))
 
-  pub →comparison_false : So (holds_of A c (opposite c.relation)) → comparison_truth A c ≡ Truth.false
+  pub →comparison_false : So (holds_of A c (opposite c.relation)) → comparison_truth A c ≡ Truth.False
   unfolding comparison_truth
   →comparison_false = false_decided _ _ comparison_clash
 
@@ -119,15 +123,15 @@ module _ (U : Atoms) (A : Answers) (c : Comparison) where
   definite_kept : (l : Literal) → Positive l → shrinks c.aggregate c.relation ≡ false →
       So (is_true (literal_truth (wipe U A) l)) → So (is_true (literal_truth A l))
   unfolding literal_truth positive_in
-  definite_kept (Literal.plain a) p n t = by-test (U a) (λ u. absurd (false≢true (rw u at t))) (λ f. rw f at t)
-  definite_kept (Literal.negated a) p n t = by-test (U a) (λ u. test-clash (p u) n) (λ f. rw f at t)
+  definite_kept (Literal.Plain a) p n t = by-test (U a) (λ u. absurd (false≢true (rw u at t))) (λ f. rw f at t)
+  definite_kept (Literal.Negated a) p n t = by-test (U a) (λ u. absurd (both_ways _ n (p u))) (λ f. rw f at t)
 
   -- and so is one of sign 0 that would stop being possible
   possible_kept : (l : Literal) → Positive l → grows c.aggregate c.relation ≡ false →
       So (not (is_false (literal_truth A l))) → So (not (is_false (literal_truth (wipe U A) l)))
   unfolding literal_truth positive_in
-  possible_kept (Literal.plain a) p n t = by-test (U a) (λ u. test-clash (p u) n) (λ f. rw f t)
-  possible_kept (Literal.negated a) p n t = by-test (U a) (λ u. rw u) (λ f. rw f t)
+  possible_kept (Literal.Plain a) p n t = by-test (U a) (λ u. absurd (both_ways _ n (p u))) (λ f. rw f t)
+  possible_kept (Literal.Negated a) p n t = by-test (U a) (λ u. rw u) (λ f. rw f t)
 
   -- so a comparison that holds with the atoms of U counted as false holds without
   positive_comparison : ((e : Element) → In e c.elements → Positive e.literal) →
@@ -150,11 +154,11 @@ module _ (U : Atoms) (A : Answers) (c : Comparison) where
 -- What is true with the atoms of U counted as false is true without, if each use of such an atom is positive.
 pub positive_use : (U : Atoms) (A : Answers) (h : Hypothesis) →
     ((u : Use) → In u (uses_of h) → So (U u.atom) → So u.positive) →
-    hypothesis_truth (wipe U A) h ≡ Truth.true → hypothesis_truth A h ≡ Truth.true
+    hypothesis_truth (wipe U A) h ≡ Truth.True → hypothesis_truth A h ≡ Truth.True
 unfolding hypothesis_truth literal_truth uses_of
-positive_use U A (Hypothesis.literal (Literal.plain a)) p t =
+positive_use U A (Hypothesis.literal (Literal.Plain a)) p t =
     by-test (U a) (λ u. absurd (clash (rw u at t) refl)) (λ f. rw f at t)
-positive_use U A (Hypothesis.literal (Literal.negated a)) p t =
+positive_use U A (Hypothesis.literal (Literal.Negated a)) p t =
     by-test (U a) (λ u. absurd (false≢true (p _ (inl refl) u))) (λ f. rw f at t)
 positive_use U A (Hypothesis.comparison c) p t =
     →comparison_true A c

@@ -1,6 +1,4 @@
 -- Laws of the definitions, in reading order. Assumes nothing.
--- codes that are not listed
-pub mod Unlisted
 -- the six relations
 pub mod Relations
 -- how two answers may differ at elements

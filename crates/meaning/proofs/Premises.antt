@@ -11,13 +11,14 @@ use lib.Dec.{eqb}
 use lib.ListN.{get_or, set}
 use lib.Seq.{get_or-set_other}
 use borrow.Author.Tests.{eq-eqb, leb-true, ltb-true}
-use Rattle.laws.proofs.Tests.{test-clash}
+use Rattle.std.proofs.lemmas.Bool.{both_ways}
 use Rattle.laws.proofs.Entries.{any_none}
 use Rattle.theory.specs.Steps.{Fresh}
 use Rattle.theory.specs.Levels as Theory
 use Rattle.theory.proofs.Truth.{clash}
 use Rattle.meaning.specs.Format.{Tables, atom_count, tables}
-use Rattle.meaning.specs.Reading.{Kind, given_of, levels_of, reading}
+use Rattle.meaning.specs.Reading.{given_of, levels_of, reading}
+use Rattle.meaning.specs.declared.codes.Kind.{Kind}
 use Rattle.meaning.specs.Model.{answers_of}
 use Rattle.meaning.specs.Outcome.{Answered, Call, model_of}
 use Rattle.meaning.specs.Demands.{Accepted, FoundedIn, Gift, Gives, Keeps, More}
@@ -59,7 +60,7 @@ gift_true = record {
   after = leb-true 1 _ refl;
   opened = refl;
   unconcluded = λ r i e.
-      test-clash (eq-eqb r.head 0 e) (any_none (λ r. eqb r.head 0) (reading (tables whole)).rules refl r i);
+      both_ways _ (any_none (λ r. eqb r.head 0) (reading (tables whole)).rules refl r i) (eq-eqb r.head 0 e);
 }
 
 gift_false : Gift whole (given_both 2) 57 1
@@ -71,7 +72,7 @@ gift_false = record {
   after = leb-true 2 _ refl;
   opened = refl;
   unconcluded = λ r i e.
-      test-clash (eq-eqb r.head 1 e) (any_none (λ r. eqb r.head 1) (reading (tables whole)).rules refl r i);
+      both_ways _ (any_none (λ r. eqb r.head 1) (reading (tables whole)).rules refl r i) (eq-eqb r.head 1 e);
 }
 
 -- and no other byte differs
@@ -122,7 +123,7 @@ answer_taken_back K =
 
 -- What the theorems ask: t ← count{t,a,b} ≥ 3, closed, over two facts in a certain level, has all of it.
 abbrev pub layered : List ℕ
-layered = three_of Kind.closed
+layered = three_of Kind.Closed
 
 abbrev t : Tables
 t = tables layered

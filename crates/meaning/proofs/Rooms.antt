@@ -8,8 +8,8 @@ use native.Mathlib.Omega.{arith}
 use lib.ListN.{length, get_or, drop, length-append, length-drop, length-map, get_or-append}
 use lib.Seq.{get_or-append-add, get_or-drop}
 use borrow.Author.Tests.{ltb-false}
-use Rattle.laws.proofs.Entries.{map_at_lem}
-use Rattle.theory.specs.Truth.{Truth}
+use Rattle.std.proofs.lemmas.List.{get_or-map}
+use Rattle.theory.specs.declared.answer.Truth.{Truth}
 use Rattle.meaning.specs.Format.{tables}
 use Rattle.meaning.specs.Reading.{code_of}
 use Rattle.meaning.specs.Refusal.{Refusal, packed, refusal, refusal12, refusals}
@@ -23,7 +23,7 @@ unfolding written
 written_fills A room l = record {
   long = length-append (map code_of A) (drop (length A) room) ∙ rest;
   answer = λ a k. get_or-append (map code_of A) (drop (length A) room) 0 a (omega (arith, k, length-map A code_of)) ∙
-      map_at_lem code_of Truth.undefined 0 A a k;
+      get_or-map code_of A a Truth.Undefined 0 k;
   later = λ i k. after i (omega (arith, k));
 }
   where

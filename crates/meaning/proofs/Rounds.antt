@@ -10,15 +10,19 @@ use native.Mathlib.Decide.{dec_lt}
 use lib.Dec.{eqb}
 use lib.ListN.{length}
 use borrow.Author.Tests.{eqb-true, eq-eqb, ne_eqb}
+use Rattle.std.proofs.lemmas.Bool.{and_from, and_parts, or_cases, or_left, or_right}
+use Rattle.std.proofs.lemmas.List.{get_or_past}
 use Rattle.laws.specs.Lists.{map_at, times}
-use Rattle.laws.proofs.Tests.{both, by-test, left, or_l, or_of, or_r, right}
-use Rattle.laws.proofs.Places.{get_or_out, map_at_at, map_at_length, map_at_out}
+use Rattle.laws.proofs.Tests.{by-test}
+use Rattle.laws.proofs.Places.{map_at_at, map_at_length, map_at_out}
 use Rattle.laws.proofs.Repeats.{times_ends}
 use Rattle.laws.proofs.Counting.{Clears, clears_falls, number, number_most_lem}
-use Rattle.theory.specs.Truth.{Truth, is_undefined, ◌≼◌}
+use Rattle.theory.specs.Truth.{is_undefined, ◌≼◌}
+use Rattle.theory.specs.declared.answer.Truth.{Truth}
 use Rattle.theory.specs.Answers.{Answers, ◌⊑◌}
 use Rattle.theory.proofs.Truth.{by_answer, clash, undefined_false, undefined_true, ≼_refl}
-use Rattle.meaning.specs.Reading.{Kind, Reading, is_complete, kind_at, level_at, level_count}
+use Rattle.meaning.specs.Reading.{Reading, is_complete, kind_at, level_at, level_count}
+use Rattle.meaning.specs.declared.codes.Kind.{Kind}
 use Rattle.meaning.specs.Model.{answers_of, decide, derived, falls, members_of, next, refuted, round, unfounded}
 use Rattle.meaning.specs.Founded.{AllCertain, CertainEnded, CertainStep, Complete, Derived, Ended, Refuted, Step}
 use Rattle.meaning.specs.Founded.{Unsupported}
@@ -28,24 +32,24 @@ use Rattle.meaning.proofs.Unfounded.{greatest, is_unfounded}
 
 -- A new answer: `on` says that the atom is to be decided, `t` that some body is true, `f` that it falls.
 abbrev verdict : Bool → Bool → Bool → Truth → Truth
-verdict on t f x = cond on (cond t Truth.true (cond f Truth.false Truth.undefined)) x
+verdict on t f x = cond on (cond t Truth.True (cond f Truth.False Truth.Undefined)) x
 
 -- what it comes from: true, false, undefined
-new_true_of : (on t f : Bool) (x : Truth) → verdict on t f x ≡ Truth.true →
-    (x ≡ Truth.true) ⊎ (So on × So t)
+new_true_of : (on t f : Bool) (x : Truth) → verdict on t f x ≡ Truth.True →
+    (x ≡ Truth.True) ⊎ (So on × So t)
 new_true_of true true f x e = inr (refl, refl)
 new_true_of true false true x e = absurd (clash e refl)
 new_true_of true false false x e = absurd (undefined_true refl e)
 new_true_of false t f x e = inl e
 
-new_false_of : (on t f : Bool) (x : Truth) → verdict on t f x ≡ Truth.false →
-    (x ≡ Truth.false) ⊎ (So on × So f)
+new_false_of : (on t f : Bool) (x : Truth) → verdict on t f x ≡ Truth.False →
+    (x ≡ Truth.False) ⊎ (So on × So f)
 new_false_of true true f x e = absurd (clash refl e)
 new_false_of true false true x e = inr (refl, refl)
 new_false_of true false false x e = absurd (undefined_false refl e)
 new_false_of false t f x e = inl e
 
-none_new_of : (on t f : Bool) (x : Truth) → So on → verdict on t f x ≡ Truth.undefined → (So t → ⊥) × (So f → ⊥)
+none_new_of : (on t f : Bool) (x : Truth) → So on → verdict on t f x ≡ Truth.Undefined → (So t → ⊥) × (So f → ⊥)
 none_new_of true true f x o e = absurd (undefined_true e refl)
 none_new_of true false true x o e = absurd (undefined_false e refl)
 none_new_of true false false x o e = (false≢true, false≢true)
@@ -60,16 +64,16 @@ pub record Fit (R : Reading) (levels : List ℕ) (n : ℕ) (A : List Truth) : Ty
 module _ (R : Reading) (levels : List ℕ) (n : ℕ) (A : List Truth) (fit : Fit R levels n A) where
   -- a list that is mapped by place, read at any atom: an atom past the table is at no level, and stays undefined
   pub each_at : (f : ℕ → Truth → Truth) →
-      ((a : ℕ) → eqb (level_at levels a) n ≡ false → f a Truth.undefined ≡ Truth.undefined) →
+      ((a : ℕ) → eqb (level_at levels a) n ≡ false → f a Truth.Undefined ≡ Truth.Undefined) →
       (a : ℕ) → answers_of (map_at f 0 A) a ≡ f a (answers_of A a)
   each_at f stays a =
-      by_cases (dec_lt a (length A)) (map_at_at f Truth.undefined Truth.undefined A a)
+      by_cases (dec_lt a (length A)) (map_at_at f Truth.Undefined Truth.Undefined A a)
       (λ out.
       let o : length A ≤ a = omega (arith, out) in
-      let z : level_at levels a ≡ level_count = get_or_out level_count levels a (omega (arith, o, fit.of_levels)) in
-      map_at_out f Truth.undefined 0 A a o ∙
+      let z : level_at levels a ≡ level_count = get_or_past levels a level_count (omega (arith, o, fit.of_levels)) in
+      map_at_out f Truth.Undefined 0 A a o ∙
       sym (stays a (ne_eqb (level_at levels a) n (λ e. omega (arith, z, e, fit.low)))) ∙
-      ap (f a) (sym (get_or_out Truth.undefined A a o)))
+      ap (f a) (sym (get_or_past A a Truth.Undefined o)))
 
   -- the answers before and after the round, and the set that step (c) finds
   abbrev before : Answers
@@ -107,19 +111,19 @@ module _ (R : Reading) (levels : List ℕ) (n : ℕ) (A : List Truth) (fit : Fit
 
   -- what is decided is at the level
   at_level : (a : ℕ) → So (on a) → level_at levels a ≡ n
-  at_level a o = eqb-true (level_at levels a) n (right (is_undefined (before a)) _ o)
+  at_level a o = eqb-true (level_at levels a) n (and_parts (is_undefined (before a)) _ o).1
 
   -- a decided answer stays
   pub round_keeps : answers_of A ⊑ answers_of (round R levels n A)
   round_keeps a = rw (round_is a) (kept (before a) (eqb (level_at levels a) n) _)
     where
       kept : (x : Truth) (e : Bool) (y : Truth) → x ≼ cond (is_undefined x && e) y x
-      kept Truth.undefined e y = (λ t. absurd (undefined_true refl t), λ t. absurd (undefined_false refl t))
-      kept Truth.true e y = ≼_refl Truth.true
-      kept Truth.false e y = ≼_refl Truth.false
+      kept Truth.Undefined e y = (λ t. absurd (undefined_true refl t), λ t. absurd (undefined_false refl t))
+      kept Truth.True e y = ≼_refl Truth.True
+      kept Truth.False e y = ≼_refl Truth.False
 
   -- step (a) alone makes true
-  new_true : (a : ℕ) → after a ≡ Truth.true → (before a ≡ Truth.true) ⊎ ((level_at levels a ≡ n) × Derived R before a)
+  new_true : (a : ℕ) → after a ≡ Truth.True → (before a ≡ Truth.True) ⊎ ((level_at levels a ≡ n) × Derived R before a)
   new_true a e =
       ⊎_elim inl (λ (o, t). inr (at_level a o, derived→ R before a t))
       (new_true_of (on a) (rises a) (sinks a) (before a) (sym (round_is a) ∙ e))
@@ -133,14 +137,14 @@ module _ (R : Reading) (levels : List ℕ) (n : ℕ) (A : List Truth) (fit : Fit
   falls→ a f =
       ⊎_elim
       (λ b. inl (
-        complete_of (kind a) (left (is_complete (kind a)) _ b),
-        refuted→ R before a (right (is_complete (kind a)) _ b),
+        complete_of (kind a) (and_parts (is_complete (kind a)) _ b).0,
+        refuted→ R before a (and_parts (is_complete (kind a)) _ b).1,
       ))
       (λ m. inr (members_of found, is_unfounded R levels n A fit.of_kinds, m))
-      (or_of (is_complete (kind a) && refuted R before a) (members_of found a) f)
+      (or_cases (is_complete (kind a) && refuted R before a) (members_of found a) f)
 
   -- steps (b) and (c) alone make false
-  new_false : (a : ℕ) → after a ≡ Truth.false → (before a ≡ Truth.false) ⊎ ((level_at levels a ≡ n) × Falls a)
+  new_false : (a : ℕ) → after a ≡ Truth.False → (before a ≡ Truth.False) ⊎ ((level_at levels a ≡ n) × Falls a)
   new_false a e =
       ⊎_elim inl (λ (o, f). inr (at_level a o, falls→ a f))
       (new_false_of (on a) (rises a) (sinks a) (before a) (sym (round_is a) ∙ e))
@@ -168,10 +172,10 @@ module _ (R : Reading) (levels : List ℕ) (n : ℕ) (A : List Truth) (fit : Fit
   -- the end
   module _ (end : round R levels n A ≡ A) where
     -- what is still undefined neither rises nor sinks
-    none_new : (a : ℕ) → before a ≡ Truth.undefined → level_at levels a ≡ n → (So (rises a) → ⊥) × (So (sinks a) → ⊥)
+    none_new : (a : ℕ) → before a ≡ Truth.Undefined → level_at levels a ≡ n → (So (rises a) → ⊥) × (So (sinks a) → ⊥)
     none_new a u l =
         none_new_of (on a) (rises a) (sinks a) (before a)
-        (both {a = is_undefined (before a)} (ap is_undefined u) (eq-eqb (level_at levels a) n l))
+        (and_from (is_undefined (before a)) _ (ap is_undefined u) (eq-eqb (level_at levels a) n l))
         (sym (round_is a) ∙ ap (λ (B : List Truth). answers_of B a) end ∙ u)
 
     -- so no step adds anything
@@ -180,9 +184,9 @@ module _ (R : Reading) (levels : List ℕ) (n : ℕ) (A : List Truth) (fit : Fit
     round_ended = record {
       no_true = λ a u l d. (none_new a u l).0 (→derived R before a d);
       no_false = λ a u l c f. (none_new a u l).1
-          (or_l _ (members_of found a) (both (of_complete (kind a) c) (→refuted R before a f)));
+          (or_left _ (members_of found a) (and_from _ _ (of_complete (kind a) c) (→refuted R before a f)));
       no_unfounded = λ a u (U, w, m). (none_new a u (w.closed a m).1).1
-          (or_r (is_complete (kind a) && refuted R before a) _ (greatest R levels n A fit.of_kinds U w a m));
+          (or_right (is_complete (kind a) && refuted R before a) _ (greatest R levels n A fit.of_kinds U w a m));
     }
 
     pub round_certain_ended : CertainEnded R levels n (answers_of A)
@@ -197,13 +201,13 @@ module _ (R : Reading) (levels : List ℕ) (n : ℕ) where
   -- an answer stays as it is, or was undefined and is decided
   next_clears : (A : List Truth) (U : List Bool) (a : ℕ) (x : Truth) → Clears is_undefined (next R levels n A U) a x
   unfolding next
-  next_clears A U a Truth.undefined =
+  next_clears A U a Truth.Undefined =
       by-test (eqb (level_at levels a) n)
       (λ t. rw t
       (by_answer (decide R A U a) inl (λ e. inr (refl, ap is_undefined e)) (λ e. inr (refl, ap is_undefined e))))
       (λ f. rw f (inl refl))
-  next_clears A U a Truth.true = inl refl
-  next_clears A U a Truth.false = inl refl
+  next_clears A U a Truth.True = inl refl
+  next_clears A U a Truth.False = inl refl
 
   pub round_falls : (A : List Truth) →
       (round R levels n A ≡ A) ⊎ (number is_undefined (round R levels n A) < number is_undefined A)

@@ -5,9 +5,11 @@ use mathlib.Core.Bool.{Bool, not, ◌&&◌, ◌||◌, So}
 use Prim.Native.Nat.{ℕ}
 use lib.Dec.{eqb}
 use borrow.Author.Tests.{eqb-true, eq-eqb}
-use Rattle.laws.proofs.Tests.{by-test, both, left, right, or_of, or_l, or_r, not_of}
+use Rattle.std.proofs.lemmas.Bool.{and_from, and_parts, or_cases, or_left, or_right}
+use Rattle.laws.proofs.Tests.{by-test, not_of}
 use Rattle.laws.proofs.Entries.{any_entry, entry_any, all_entry, entry_all}
-use Rattle.theory.specs.Truth.{Truth, is_true, is_false}
+use Rattle.theory.specs.Truth.{is_true, is_false}
+use Rattle.theory.specs.declared.answer.Truth.{Truth}
 use Rattle.theory.specs.Answers.{Answers}
 use Rattle.meaning.specs.Reading.{Reading, Rule}
 use Rattle.meaning.specs.Truth.{body_truth}
@@ -29,14 +31,14 @@ module _ (R : Reading) (A : Answers) (a : ℕ) where
   unfolding derived supports
   derived→ t =
       let (r, i, s) = any_entry supports R.rules t in
-      let truth : body_truth A r.body ≡ Truth.true = true_of _ (right (eqb r.head a) _ s) in
-      (r, i, eqb-true r.head a (left (eqb r.head a) _ s), body_true→ A r.body truth)
+      let truth : body_truth A r.body ≡ Truth.True = true_of _ (and_parts (eqb r.head a) _ s).1 in
+      (r, i, eqb-true r.head a (and_parts (eqb r.head a) _ s).0, body_true→ A r.body truth)
 
   pub →derived : Derived R A a → So (derived R A a)
   unfolding derived supports
   →derived (r, i, e, b) =
       entry_any supports R.rules r i
-      (both {a = eqb r.head a} (eq-eqb r.head a e) (ap is_true (→body_true A r.body b)))
+      (and_from (eqb r.head a) _ (eq-eqb r.head a e) (ap is_true (→body_true A r.body b)))
 
   -- step (b), both ways
   pub refuted→ : So (refuted R A a) → Refuted R A a
@@ -44,7 +46,7 @@ module _ (R : Reading) (A : Answers) (a : ℕ) where
   refuted→ t r i e =
       let false_body : So (is_false (body_truth A r.body)) =
       ⊎_elim (λ n. absurd (not_of (eqb r.head a) n (eq-eqb r.head a e))) (λ f. f)
-      (or_of (not (eqb r.head a)) (is_false (body_truth A r.body)) (all_entry spares R.rules t r i)) in
+      (or_cases (not (eqb r.head a)) (is_false (body_truth A r.body)) (all_entry spares R.rules t r i)) in
       body_false→ A r.body (false_of _ false_body)
 
   pub →refuted : Refuted R A a → So (refuted R A a)
@@ -53,5 +55,5 @@ module _ (R : Reading) (A : Answers) (a : ℕ) where
       entry_all spares R.rules
       (λ r i. by-test (eqb r.head a)
       (λ e. let (h, j, v) = f r i (eqb-true r.head a e) in
-      or_r (not (eqb r.head a)) _ (ap is_false (→body_false A r.body h j v)))
-      (λ n. or_l _ (is_false (body_truth A r.body)) (ap not n)))
+      or_right (not (eqb r.head a)) _ (ap is_false (→body_false A r.body h j v)))
+      (λ n. or_left _ (is_false (body_truth A r.body)) (ap not n)))

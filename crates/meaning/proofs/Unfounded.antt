@@ -10,16 +10,20 @@ use native.Mathlib.Decide.{dec_lt}
 use lib.Dec.{eqb}
 use lib.ListN.{length, get_or}
 use borrow.Author.Tests.{eqb-true, eq-eqb}
+use Rattle.std.proofs.lemmas.Bool.{and_from, and_parts, both_ways, or_cases, or_left, or_right}
 use Rattle.laws.specs.Lists.{In, map_at}
-use Rattle.laws.proofs.Tests.{by-test, test-clash, both, left, right, or_of, or_l, or_r, not_of, of_not}
+use Rattle.laws.proofs.Tests.{by-test, not_of, of_not}
 use Rattle.laws.proofs.Places.{map_at_at, map_at_length, map_at_out, place_in}
 use Rattle.laws.proofs.Repeats.{times_ends, times_keeps}
 use Rattle.laws.proofs.Counting.{Clears, clears_falls, number, number_most_lem}
-use Rattle.theory.specs.Truth.{Truth, is_true}
+use Rattle.theory.specs.Truth.{is_true}
+use Rattle.theory.specs.declared.answer.Truth.{Truth}
 use Rattle.theory.specs.Answers.{Answers, Atoms, NoneTrue, wipe}
 use Rattle.theory.proofs.Truth.{clash, true_of, ≼_refl}
 use Rattle.theory.proofs.Answers.{⊑_refl, wipe_in, wipe_over, wipe-≼}
-use Rattle.meaning.specs.Reading.{Hypothesis, Kind, Literal, Reading, Rule, is_closed, kind_at, level_at}
+use Rattle.meaning.specs.Reading.{Hypothesis, Reading, Rule, is_closed, kind_at, level_at}
+use Rattle.meaning.specs.declared.codes.Literal.{Literal}
+use Rattle.meaning.specs.declared.codes.Kind.{Kind}
 use Rattle.meaning.specs.Truth.{hypothesis_truth, literal_truth}
 use Rattle.meaning.specs.Model.{answers_of, candidate, candidates, members_of, refuted, stays, strike, unfounded}
 use Rattle.meaning.specs.Founded.{Fails, Unfounded, already, counted, inside}
@@ -29,16 +33,16 @@ use Rattle.meaning.proofs.Steps.{refuted→, →refuted}
 
 -- The three cases are one: the hypothesis is false once the set counts as false.
 module _ (U : Atoms) (A : Answers) (none : NoneTrue U A) where
-  pub fails→false : (h : Hypothesis) → Fails U A h → hypothesis_truth (wipe U A) h ≡ Truth.false
+  pub fails→false : (h : Hypothesis) → Fails U A h → hypothesis_truth (wipe U A) h ≡ Truth.False
   unfolding hypothesis_truth literal_truth
   fails→false h (already e) = (hypothesis_local A (wipe U A) h (λ a _. wipe_over U none (⊑_refl A) a)).1 e
-  fails→false (Hypothesis.literal (Literal.plain a)) (inside m) = wipe_in U A a m
+  fails→false (Hypothesis.literal (Literal.Plain a)) (inside m) = wipe_in U A a m
   fails→false (Hypothesis.comparison c) (counted e) = e
 
-  pub false→fails : (h : Hypothesis) → hypothesis_truth (wipe U A) h ≡ Truth.false → Fails U A h
+  pub false→fails : (h : Hypothesis) → hypothesis_truth (wipe U A) h ≡ Truth.False → Fails U A h
   unfolding hypothesis_truth literal_truth
-  false→fails (Hypothesis.literal (Literal.plain a)) e = by-test (U a) inside (λ n. already (rw n at e))
-  false→fails (Hypothesis.literal (Literal.negated a)) e =
+  false→fails (Hypothesis.literal (Literal.Plain a)) e = by-test (U a) inside (λ n. already (rw n at e))
+  false→fails (Hypothesis.literal (Literal.Negated a)) e =
       by-test (U a) (λ m. absurd (clash refl (rw m at e))) (λ n. already (rw n at e))
   false→fails (Hypothesis.comparison c) e = counted e
 
@@ -47,7 +51,7 @@ passed : {X : Type 0} (f : ℕ → X → Bool) (d : X) (xs : List X) (a : ℕ) �
     So (f a (get_or xs a d))
 passed f d xs a m =
     by_cases (dec_lt a (length xs)) (λ l. sym (map_at_at f d false xs a l) ∙ m)
-    (λ out. test-clash m (map_at_out f false 0 xs a (omega (arith, out))))
+    (λ out. absurd (both_ways _ (map_at_out f false 0 xs a (omega (arith, out))) m))
 
 -- each atom of U is one of W
 abbrev pub ◌⊆◌ : Atoms → Atoms → Type 0
@@ -56,7 +60,7 @@ U ⊆ W = (a : ℕ) → So (U a) → So (W a)
 infix 40 ◌⊆◌
 -- what a set keeps from coming true, a larger one with none true does
 pub wider : (U W : Atoms) (A : Answers) → U ⊆ W → NoneTrue W A → (h : Hypothesis) → Fails U A h →
-    hypothesis_truth (wipe W A) h ≡ Truth.false
+    hypothesis_truth (wipe W A) h ≡ Truth.False
 wider U W A sub none h f =
     (hypothesis_local (wipe U A) (wipe W A) h
     (λ a _. wipe-≼ U W A A a (λ m. inl (sub a m)) (λ m. inr (none a m)) (≼_refl (A a)))
@@ -70,15 +74,15 @@ module _ (R : Reading) (levels : List ℕ) (n : ℕ) where
   pub union_unfounded : (U W : Atoms) (A : Answers) → Unfounded R levels n U A → Unfounded R levels n W A →
       Unfounded R levels n (union U W) A
   union_unfounded U W A u w = record {
-    closed = λ a m. ⊎_elim (u.closed a) (w.closed a) (or_of (U a) (W a) m);
+    closed = λ a m. ⊎_elim (u.closed a) (w.closed a) (or_cases (U a) (W a) m);
     none_true = none;
     fails = λ r i m.
-        ⊎_elim (grown U (λ a. or_l (U a) (W a)) u r i) (grown W (λ a. or_r (U a) (W a)) w r i)
-        (or_of (U r.head) (W r.head) m);
+        ⊎_elim (grown U (λ a. or_left (U a) (W a)) u r i) (grown W (λ a. or_right (U a) (W a)) w r i)
+        (or_cases (U r.head) (W r.head) m);
   }
     where
       none : NoneTrue (union U W) A
-      none a m = ⊎_elim (u.none_true a) (w.none_true a) (or_of (U a) (W a) m)
+      none a m = ⊎_elim (u.none_true a) (w.none_true a) (or_cases (U a) (W a) m)
 
       grown : (S : Atoms) → S ⊆ union U W → Unfounded R levels n S A → (r : Rule) → In r R.rules → So (S r.head) →
           (h : Hypothesis) × In h r.body × Fails (union U W) A h
@@ -98,37 +102,35 @@ module _ (R : Reading) (levels : List ℕ) (n : ℕ) where
 
     -- candidates are closed atoms of the level that are not true
     candidates_of : (a : ℕ) → So (members_of chosen a) →
-        (kind_at R.kinds a ≡ Kind.closed) × (level_at levels a ≡ n) × (answers_of A a ≡ Truth.true → ⊥)
+        (kind_at R.kinds a ≡ Kind.Closed) × (level_at levels a ≡ n) × (answers_of A a ≡ Truth.True → ⊥)
     unfolding candidates
     candidates_of a m =
-        let c = passed (candidate R levels n) Truth.undefined A a m in
-        let k = left (here a) _ c in (
-          closed_of (kind_at R.kinds a) (left (is_closed (kind_at R.kinds a)) _ k),
-          eqb-true (level_at levels a) n (right (is_closed (kind_at R.kinds a)) _ k),
-          λ t. not_of (is_true (answers_of A a)) (right (here a) _ c) (ap is_true t),
+        let c = passed (candidate R levels n) Truth.Undefined A a m in
+        let k = (and_parts (here a) _ c).0 in (
+          closed_of (kind_at R.kinds a) (and_parts (is_closed (kind_at R.kinds a)) _ k).0,
+          eqb-true (level_at levels a) n (and_parts (is_closed (kind_at R.kinds a)) _ k).1,
+          λ t. not_of (is_true (answers_of A a)) (and_parts (here a) _ c).1 (ap is_true t),
         )
 
-    of_candidates : (a : ℕ) → kind_at R.kinds a ≡ Kind.closed → level_at levels a ≡ n →
-        (answers_of A a ≡ Truth.true → ⊥) → So (members_of chosen a)
+    of_candidates : (a : ℕ) → kind_at R.kinds a ≡ Kind.Closed → level_at levels a ≡ n →
+        (answers_of A a ≡ Truth.True → ⊥) → So (members_of chosen a)
     unfolding candidates
     of_candidates a k l t =
-        map_at_at (candidate R levels n) Truth.undefined false A a (omega (arith, closed_in R.kinds a k, long)) ∙
-        both (both (ap is_closed k) (eq-eqb (level_at levels a) n l))
+        map_at_at (candidate R levels n) Truth.Undefined false A a (omega (arith, closed_in R.kinds a k, long)) ∙
+        and_from _ _ (and_from _ _ (ap is_closed k) (eq-eqb (level_at levels a) n l))
         (of_not (is_true (answers_of A a)) (λ e. t (true_of _ e)))
 
     -- a strike keeps what it keeps, and only lets go
     strike_of : (U : List Bool) (a : ℕ) → So (members_of (strike R A U) a) →
         So (members_of U a) × So (refuted R (wipe (members_of U) (answers_of A)) a)
     unfolding strike
-    strike_of U a m =
-        let s = passed (stays R A U) false U a m in
-        (left (members_of U a) _ s, right (members_of U a) _ s)
+    strike_of U a m = and_parts (members_of U a) _ (passed (stays R A U) false U a m)
 
     of_strike : (U : List Bool) (a : ℕ) → So (members_of U a) → So (refuted R (wipe (members_of U) (answers_of A)) a) →
         So (members_of (strike R A U) a)
     unfolding strike
     of_strike U a m f =
-        map_at_at (stays R A U) false false U a (place_in false U a (λ o. false≢true (sym o ∙ m))) ∙ both m f
+        map_at_at (stays R A U) false false U a (place_in false U a (λ o. false≢true (sym o ∙ m))) ∙ and_from _ _ m f
 
     -- the sets that are struck: candidates all, and none of an unfounded set is struck out
     abbrev Within : List Bool → Type 0

@@ -7,10 +7,12 @@ use mathlib.Core.List.{List}
 use Prim.Native.Nat.{ℕ}
 use native.Mathlib.Omega.{arith}
 use lib.Seq.{ext_get_or}
+use Rattle.std.proofs.lemmas.Bool.{both_ways}
 use Rattle.laws.specs.Lists.{In, all}
-use Rattle.laws.proofs.Tests.{by-test, test-clash}
+use Rattle.laws.proofs.Tests.{by-test}
 use Rattle.laws.proofs.Entries.{all_entry, in_gather, not_all}
-use Rattle.theory.specs.Truth.{Truth, is_true}
+use Rattle.theory.specs.Truth.{is_true}
+use Rattle.theory.specs.declared.answer.Truth.{Truth}
 use Rattle.theory.specs.Answers.{Answers, Atoms, ◌⊑◌, wipe}
 use Rattle.theory.specs.Rules.{Part, Rules}
 use Rattle.theory.specs.Rules as Theory
@@ -20,7 +22,8 @@ use Rattle.theory.specs.Levels.{Book, Layers, Model, Under, at_level, certain_le
 use Rattle.theory.specs.Levels as TheoryLevels
 use Rattle.theory.proofs.Truth.{true_of, undefined_false, undefined_true}
 use Rattle.theory.proofs.Model.{grows, one_model}
-use Rattle.meaning.specs.Reading.{Hypothesis, Kind, Reading, Rule, kind_at, level_at, level_count}
+use Rattle.meaning.specs.Reading.{Hypothesis, Reading, Rule, kind_at, level_at, level_count}
+use Rattle.meaning.specs.declared.codes.Kind.{Kind}
 use Rattle.meaning.specs.Refusal.{Use, uses, uses_of}
 use Rattle.meaning.specs.Truth.{hypothesis_truth}
 use Rattle.meaning.specs.Model.{answers_of}
@@ -42,16 +45,16 @@ rules R = record {
   truth_local = hypothesis_local;
   head = λ r. r.head;
   Uses = λ r h. In h r.body;
-  Certain = λ a. kind_at R.kinds a ≡ Kind.certain;
+  Certain = λ a. kind_at R.kinds a ≡ Kind.Certain;
 }
 
 -- a body is true, or some hypothesis is not
 pub body_or : (A : Answers) (r : Rule) →
-    BodyTrue A r ⊎ ((h : Hypothesis) × In h r.body × (hypothesis_truth A h ≡ Truth.true → ⊥))
+    BodyTrue A r ⊎ ((h : Hypothesis) × In h r.body × (hypothesis_truth A h ≡ Truth.True → ⊥))
 body_or A r =
     let holds : Hypothesis → Bool = λ h. is_true (hypothesis_truth A h) in
     by-test (all holds r.body) (λ t. inl (λ h i. true_of (hypothesis_truth A h) (all_entry holds r.body t h i)))
-    (λ f. let (h, i, n) = not_all holds r.body f in inr (h, i, λ e. test-clash (ap is_true e) n))
+    (λ f. let (h, i, n) = not_all holds r.body f in inr (h, i, λ e. both_ways _ n (ap is_true e)))
 
 -- the rules as a book of the theory
 abbrev pub book : Reading → Book
@@ -59,7 +62,7 @@ book R = record {
   rules = rules R;
   Has = λ r. In r R.rules;
   Complete = λ a. Complete (kind_at R.kinds a);
-  Closed = λ a. kind_at R.kinds a ≡ Kind.closed;
+  Closed = λ a. kind_at R.kinds a ≡ Kind.Closed;
   complete_uncertain = λ a c e. not_complete e c;
   body_or = λ A r _. body_or A r;
 }
@@ -72,10 +75,10 @@ module _ (R : Reading) (levels : List ℕ) (given : List Truth) (S : Sound R lev
   reads_use r h i a m = let (u, j, e) = uses_reads h a m in (u, in_gather uses_of r.body h u i j, e)
 
   -- in a rule for a certain atom, counting undefined atoms of the level as false makes nothing true
-  pub positive : (r : Rule) → In r R.rules → kind_at R.kinds r.head ≡ Kind.certain →
+  pub positive : (r : Rule) → In r R.rules → kind_at R.kinds r.head ≡ Kind.Certain →
       (h : Hypothesis) → In h r.body → (U : Atoms) (A : Answers) →
-      ((a : ℕ) → So (U a) → (level_at levels a ≡ level_at levels r.head) × (A a ≡ Truth.undefined)) →
-      hypothesis_truth (wipe U A) h ≡ Truth.true → hypothesis_truth A h ≡ Truth.true
+      ((a : ℕ) → So (U a) → (level_at levels a ≡ level_at levels r.head) × (A a ≡ Truth.Undefined)) →
+      hypothesis_truth (wipe U A) h ≡ Truth.True → hypothesis_truth A h ≡ Truth.True
   unfolding uses
   positive r i c h j U A f =
       positive_use U A h (λ u k m. S.positive r i c u (in_gather uses_of r.body h u j k) (sym (f u.atom m).0))
@@ -183,7 +186,8 @@ module _ (R : Reading) (levels : List ℕ) (given : List Truth) (S : Sound R lev
       TheoryLevels.uncertain (levels_there before) f (run_there (there n) (λ _ _. step_there n) run) (ended_there n end)
 
   -- founded answers are the theory's model
-  pub model_there : {A : List Truth} → Founded R levels given A → Model (book R) layers (answers_of given) (answers_of A)
+  pub model_there : {A : List Truth} → Founded R levels given A →
+      Model (book R) layers (answers_of given) (answers_of A)
   model_there f = record { most = level_count; covers = covers; levels = levels_there f.worked }
 
   -- what is given is given to open atoms that no rule concludes
@@ -199,7 +203,7 @@ module _ (R : Reading) (levels : List ℕ) (given : List Truth) (S : Sound R lev
   pub founded_unique : (A B : List Truth) → Founded R levels given A → Founded R levels given B → A ≡ B
   founded_unique A B f g =
       let same : answers_of A ≡ answers_of B = one_model fresh (model_there f) (model_there g) in
-      ext_get_or Truth.undefined A B (f.long ∙ sym g.long) (λ a _. ap (λ (X : Answers). X a) same)
+      ext_get_or Truth.Undefined A B (f.long ∙ sym g.long) (λ a _. ap (λ (X : Answers). X a) same)
 
 -- more given answers take none back
 pub founded_grows : (R : Reading) (levels : List ℕ) (given more : List Truth) → Sound R levels given →

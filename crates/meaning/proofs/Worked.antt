@@ -1,22 +1,26 @@
 -- The executable model is founded: rounds are a run, they come to their end, and a level is closed if it is certain.
 -- Assumes nothing.
 use mathlib.Core.Path.{◌≡◌, refl, sym, ap, ◌∙◌, subst, fun_ext}
-use mathlib.Core.Logic.{◌⊎◌, inl, inr, ⊎_elim, by_cases}
+use mathlib.Core.Logic.{◌⊎◌, inl, inr, ⊎_elim}
 use mathlib.Core.Bool.{Bool, true, false, cond, ◌&&◌, So}
 use mathlib.Core.List.{List}
 use Prim.Native.Nat.{ℕ, zero, suc, ◌<◌, ◌≤◌}
 use native.Mathlib.Omega.{arith}
-use native.Mathlib.Decide.{dec_lt}
 use lib.Dec.{eqb}
 use lib.ListN.{length}
 use borrow.Author.Tests.{eqb-true, eq-eqb}
-use Rattle.laws.specs.Lists.{times}
-use Rattle.laws.proofs.Tests.{by-test, both, left, right, test-clash}
+use Rattle.std.proofs.lemmas.Bool.{and_from, and_parts, both_ways}
+use Rattle.laws.specs.Lists.{any_to, times}
+use Rattle.laws.proofs.Tests.{by-test}
+use Rattle.laws.proofs.Searches.{NoneTo}
+use Rattle.laws.proofs.Numbers.{any_none, any_number}
 use Rattle.laws.proofs.Places.{map_at_length, place_in}
 use Rattle.laws.proofs.Repeats.{times_keeps}
-use Rattle.theory.specs.Truth.{Truth, is_undefined}
+use Rattle.theory.specs.Truth.{is_undefined}
+use Rattle.theory.specs.declared.answer.Truth.{Truth}
 use Rattle.theory.specs.Answers.{Answers}
-use Rattle.meaning.specs.Reading.{Kind, Reading, is_certain, kind_at, level_at, level_count}
+use Rattle.meaning.specs.Reading.{Reading, is_certain, kind_at, level_at, level_count}
+use Rattle.meaning.specs.declared.codes.Kind.{Kind}
 use Rattle.meaning.specs.Model.{answers_of, close, closing, level, levels_below, model, round}
 use Rattle.meaning.specs.Founded.{AllCertain, CertainStep, Founded, Levels, NoneCertain, Run, Step, certain}
 use Rattle.meaning.specs.Founded.{closed, none, uncertain}
@@ -27,11 +31,9 @@ use Rattle.meaning.proofs.Rounds.{round_ended, round_step}
 
 -- of finitely many numbers one passes a test, or none does
 below : (m : ℕ) (f : ℕ → Bool) → ((a : ℕ) × So (f a)) ⊎ ((a : ℕ) → a < m → f a ≡ false)
-below zero f = inr (λ a l. absurd (omega (arith, l)))
-below (suc m) f =
-    by-test (f m) (λ t. inl (m, t))
-    (λ n. ⊎_elim inl
-    (λ h. inr (λ a l. by_cases (dec_lt a m) (h a) (λ g. let e : a ≡ m = omega (arith, l, g) in rw e n))) (below m f))
+unfolding NoneTo
+below m f =
+    by-test (any_to f m) (λ t. let (a, _, u) = any_number f m t in inl (a, u)) (λ n. inr (any_none f m n))
 
 module _ (R : Reading) (levels : List ℕ) (long : length R.kinds ≡ length levels) where
   module _ (n : ℕ) (low : n < level_count) (A : List Truth) (size : length A ≡ length levels) where
@@ -63,11 +65,11 @@ module _ (R : Reading) (levels : List ℕ) (long : length R.kinds ≡ length lev
     -- to close a level makes its undefined certain atoms false
     close_is : (B : List Truth) → length B ≡ length A → (f : ℕ → Bool) →
         ((a : ℕ) → (is_undefined (answers_of B a) && at a && sure a) ≡ f a) →
-        answers_of (close R levels n B) ≡ (λ a. cond (f a) Truth.false (answers_of B a))
+        answers_of (close R levels n B) ≡ (λ a. cond (f a) Truth.False (answers_of B a))
     unfolding close closing
     close_is B l f h = fun_ext (λ a.
         each_at R levels n B (fit B l) (closing R levels n) (λ a e. rw e) a ∙
-        ap (λ (b : Bool). cond b Truth.false (answers_of B a)) (h a))
+        ap (λ (b : Bool). cond b Truth.False (answers_of B a)) (h a))
 
     -- of a certain level that is all undefined atoms, of another none
     close_certain : AllCertain R levels n → (B : List Truth) → length B ≡ length A →
@@ -125,7 +127,7 @@ module _ (R : Reading) (levels : List ℕ) (long : length R.kinds ≡ length lev
   -- no level mixes certain atoms with others
   abbrev pub Pure : Type 0
   Pure = (a b : ℕ) → a < length levels → b < length levels → level_at levels a ≡ level_at levels b →
-      kind_at R.kinds a ≡ Kind.certain → kind_at R.kinds b ≡ Kind.certain
+      kind_at R.kinds a ≡ Kind.Certain → kind_at R.kinds b ≡ Kind.Certain
 
   module _ (pure : Pure) where
     -- an atom at a level is in the table
@@ -141,12 +143,12 @@ module _ (R : Reading) (levels : List ℕ) (long : length R.kinds ≡ length lev
     either n low =
         ⊎_elim
         (λ (a, t).
-        let e : level_at levels a ≡ n = eqb-true (level_at levels a) n (left (eqb (level_at levels a) n) _ t) in
-        let c : kind_at R.kinds a ≡ Kind.certain = certain_of _ (right (eqb (level_at levels a) n) _ t) in
+        let e : level_at levels a ≡ n = eqb-true (level_at levels a) n (and_parts (eqb (level_at levels a) n) _ t).0 in
+        let c : kind_at R.kinds a ≡ Kind.Certain = certain_of _ (and_parts (eqb (level_at levels a) n) _ t).1 in
         inl (λ b e'. pure a b (at_in n a low e) (at_in n b low e') (e ∙ sym e') c))
         (λ none. inr (λ a e c.
-        let t : So (certain_at n a) = both (eq-eqb (level_at levels a) n e) (ap is_certain c) in
-        test-clash t (none a (at_in n a low e))))
+        let t : So (certain_at n a) = and_from _ _ (eq-eqb (level_at levels a) n e) (ap is_certain c) in
+        absurd (both_ways _ (none a (at_in n a low e)) t)))
         (below (length levels) (certain_at n))
 
     -- the levels below n, worked through

@@ -3,10 +3,11 @@
 use Rattle.std.specs.Prelude.{ℕ, ◌+◌, ◌*◌, ◌<◌, ◌≤◌, ◌≡◌, ◌⊎◌, List, length, get_or}
 use Rattle.std.proofs.Math.Option.{none, some}
 use Rattle.laws.specs.Lists.{In}
-use Rattle.theory.specs.Truth.{Truth}
+use Rattle.theory.specs.declared.answer.Truth.{Truth}
 use Rattle.theory.specs.Answers.{◌⊑◌}
 use Rattle.meaning.specs.Format.{atom_count, start, tables}
-use Rattle.meaning.specs.Reading.{Kind, Rule, code_of, given_of, kind_at, levels_of, reading}
+use Rattle.meaning.specs.Reading.{Rule, code_of, given_of, kind_at, levels_of, reading}
+use Rattle.meaning.specs.declared.codes.Kind.{Kind}
 use Rattle.meaning.specs.Refusal.{Refusal, packed, refusal}
 use Rattle.meaning.specs.Model.{answers_of}
 use Rattle.meaning.specs.Outcome.{Call}
@@ -26,7 +27,7 @@ pub record Gift (b b' : List ℕ) (i a : ℕ) : Type 0 where
   pub place : i ≡ start b 1 + 3 * a + 2
   pub before : get_or b i 0 ≡ 0
   pub after : get_or b' i 0 ≤ 2
-  pub opened : kind_at (reading (tables b)).kinds a ≡ Kind.«open»
+  pub opened : kind_at (reading (tables b)).kinds a ≡ Kind.Open
   pub unconcluded : (r : Rule) → In r (reading (tables b)).rules → r.head ≡ a → ⊥
 
 -- b' differs from b only in given bytes of open atoms that no rule concludes and that were not given

@@ -2,7 +2,7 @@
 -- is written. Assumes nothing.
 use Rattle.std.specs.Prelude.{ℕ, ◌≡◌, List, [], ◌∷◌, ◌++◌, map, drop, length}
 use Rattle.meaning.specs.Format.{count_of, offset_of}
-use Rattle.meaning.specs.Reading.{ge}
+use Rattle.meaning.specs.declared.codes.Relation.TheVariants.{Ge}
 use Rattle.meaning.specs.Outcome.{outcome}
 -- how they are written
 pub mod Notation
@@ -15,8 +15,8 @@ pub mod Refused
 use Notation.{Example, minus}
 use Marked.{bounds, edges, empty, kinds, listing, loops, open_atoms, ranges}
 use Models.{bodies, extremes, largest, maxima, minima, rounds, smallest, sum_with_negative, sums, unfounded_sets}
-use Refused.{bytes, codes, counts, indices, neighbours, order, own_counts, own_maxima, own_minima, own_negated_sums, own_sums}
-use Refused.{places, positively, records, rules}
+use Refused.{bytes, codes, counts, indices, neighbours, order, own_counts, own_maxima, own_minima, own_negated_sums}
+use Refused.{own_sums, places, positively, records, rules}
 
 -- the entry returns the number, and the room is as said afterwards
 abbrev pub Right : Example → Type 0
@@ -90,4 +90,4 @@ pub record Written : Type 0 where
   pub offsets : map (offset_of listing) six ≡ 48 ∷ 50 ∷ 59 ∷ 77 ∷ 86 ∷ 86 ∷ []
   pub counts : map (count_of listing) six ≡ 1 ∷ 3 ∷ 3 ∷ 3 ∷ 0 ∷ 0 ∷ []
   pub bodies : drop 48 listing ≡ listing_bytes
-  pub sum_bodies : drop 48 (sum_with_negative ge (minus 1)) ≡ sum_bytes
+  pub sum_bodies : drop 48 (sum_with_negative Ge (minus 1)) ≡ sum_bytes

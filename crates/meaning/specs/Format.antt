@@ -1,6 +1,13 @@
 -- The rule book: numbers, the six tables, and the tables as lists of records. Document 01, "The rule book".
 -- Assumes nothing.
-use Rattle.std.specs.Prelude.{ℕ, zero, suc, ◌+◌, ◌-◌, ◌*◌, cond, List, [], ◌∷◌, ltb, ℤ, pos, negsuc, length, get_or, drop}
+use Rattle.std.specs.Prelude.{ℕ, zero, suc, ◌+◌, ◌-◌, ◌*◌, cond, List, [], ◌∷◌, ltb, ℤ, pos, negsuc, length}
+use Rattle.std.specs.Prelude.{get_or, drop}
+pub use Rattle.meaning.specs.declared.records.Predicate.{Predicate}
+pub use Rattle.meaning.specs.declared.records.Atom.{Atom}
+pub use Rattle.meaning.specs.declared.records.RuleRecord.{RuleRecord}
+pub use Rattle.meaning.specs.declared.records.HypothesisRecord.{HypothesisRecord}
+pub use Rattle.meaning.specs.declared.records.ComparisonRecord.{ComparisonRecord}
+pub use Rattle.meaning.specs.declared.records.ElementRecord.{ElementRecord}
 
 -- Numbers are little-endian. Past the end of the bytes there are zeros.
 abbrev pub u8_at : List ℕ → ℕ → ℕ
@@ -62,35 +69,6 @@ start b (suc k) = start b k + get_or sizes k 0 * count_of b k
 
 abbrev pub end : List ℕ → ℕ
 end b = start b (length sizes)
-
-pub record Predicate : Type 0 where
-  pub kind : ℕ
-  pub level : ℕ
-
-pub record Atom : Type 0 where
-  pub predicate : ℕ
-  pub given : ℕ
-
-pub record RuleRecord : Type 0 where
-  pub head : ℕ
-  pub first : ℕ
-  pub many : ℕ
-
-pub record HypothesisRecord : Type 0 where
-  pub sort : ℕ
-  pub index : ℕ
-
-pub record ComparisonRecord : Type 0 where
-  pub aggregate : ℕ
-  pub relation : ℕ
-  pub bound : ℤ
-  pub first : ℕ
-  pub many : ℕ
-
-pub record ElementRecord : Type 0 where
-  pub sign : ℕ
-  pub atom : ℕ
-  pub weight : ℤ
 
 -- what stands past the end of a table
 abbrev pub no_predicate : Predicate

@@ -2,14 +2,15 @@
 -- beside the rules. A round takes all three steps at once from the answers before it. Assumes nothing.
 use Rattle.std.specs.Prelude.{ℕ, zero, suc, Bool, false, not, cond, ◌&&◌, ◌||◌, List, eqb, length, get_or}
 use Rattle.laws.specs.Lists.{all, any, map_at, times}
-use Rattle.theory.specs.Truth.{Truth, is_true, is_false, is_undefined}
+use Rattle.theory.specs.Truth.{is_true, is_false, is_undefined}
+use Rattle.theory.specs.declared.answer.Truth.{Truth}
 use Rattle.theory.specs.Answers.{Answers, Atoms, wipe}
 use Rattle.meaning.specs.Reading.{Reading, is_certain, is_closed, is_complete, kind_at, level_at, level_count}
 use Rattle.meaning.specs.Truth.{body_truth}
 
 -- a list of answers and a list of tests, read at any atom
 abbrev pub answers_of : List Truth → Answers
-answers_of A a = get_or A a Truth.undefined
+answers_of A a = get_or A a Truth.Undefined
 
 abbrev pub members_of : List Bool → Atoms
 members_of U a = get_or U a false
@@ -45,7 +46,7 @@ unfoldable pub falls : Reading → List Truth → List Bool → ℕ → Bool
 falls R A U a = is_complete (kind_at R.kinds a) && refuted R (answers_of A) a || members_of U a
 
 unfoldable pub decide : Reading → List Truth → List Bool → ℕ → Truth
-decide R A U a = cond (derived R (answers_of A) a) Truth.true (cond (falls R A U a) Truth.false Truth.undefined)
+decide R A U a = cond (derived R (answers_of A) a) Truth.True (cond (falls R A U a) Truth.False Truth.Undefined)
 
 -- an answer that is decided stays, and so does one of another level
 unfoldable pub next : Reading → List ℕ → ℕ → List Truth → List Bool → ℕ → Truth → Truth
@@ -57,7 +58,7 @@ round R levels n A = map_at (next R levels n A (unfounded R levels n A)) 0 A
 -- a certain level that is finished: all its other atoms become false
 unfoldable pub closing : Reading → List ℕ → ℕ → ℕ → Truth → Truth
 closing R levels n a x =
-    cond (is_undefined x && eqb (level_at levels a) n && is_certain (kind_at R.kinds a)) Truth.false x
+    cond (is_undefined x && eqb (level_at levels a) n && is_certain (kind_at R.kinds a)) Truth.False x
 
 unfoldable pub close : Reading → List ℕ → ℕ → List Truth → List Truth
 close R levels n A = map_at (closing R levels n) 0 A

@@ -2,7 +2,7 @@
 -- "Refusals and their order". Assumes nothing.
 use Rattle.std.specs.Prelude.{ℕ, ◌≡◌, List, ◌++◌, map, length, drop}
 use Rattle.std.proofs.Math.Option.{Option, none, some}
-use Rattle.theory.specs.Truth.{Truth}
+use Rattle.theory.specs.declared.answer.Truth.{Truth}
 use Rattle.meaning.specs.Format.{tables}
 use Rattle.meaning.specs.Reading.{code_of, given_of, levels_of, reading}
 use Rattle.meaning.specs.Refusal.{Refusal, packed, refusal}

@@ -3,26 +3,25 @@
 -- nothing.
 use Rattle.std.specs.Prelude.{ℕ, zero, suc, ◌+◌, Bool, true, false, List, [], ◌∷◌, map, ℤ, get_or}
 use Rattle.std.proofs.Math.Seq.{slice}
-use Rattle.theory.specs.Truth.{Truth}
-use Rattle.meaning.specs.Format.{Predicate, Atom, RuleRecord, HypothesisRecord, ComparisonRecord, ElementRecord}
+use Rattle.theory.specs.declared.answer.Truth.{Truth}
+pub use Rattle.theory.specs.Truth.{code_of, truth_of}
+use Rattle.meaning.specs.declared.records.Predicate.{Predicate}
+use Rattle.meaning.specs.declared.records.Atom.{Atom}
+use Rattle.meaning.specs.declared.records.RuleRecord.{RuleRecord}
+use Rattle.meaning.specs.declared.records.HypothesisRecord.{HypothesisRecord}
+use Rattle.meaning.specs.declared.records.ComparisonRecord.{ComparisonRecord}
+use Rattle.meaning.specs.declared.records.ElementRecord.{ElementRecord}
 use Rattle.meaning.specs.Format.{Tables, no_comparison, no_predicate}
-
-pub data Kind : Type 0 where
-  certain «open» complete closed : Kind
-
-pub data Aggregate : Type 0 where
-  count sum min max : Aggregate
-
--- =, ≠, <, ≤, >, ≥
-pub data Relation : Type 0 where
-  eq ne lt le gt ge : Relation
-
-pub data Literal : Type 0 where
-  plain negated : ℕ → Literal
+pub use Rattle.meaning.specs.declared.codes.Kind.{Kind}
+pub use Rattle.meaning.specs.declared.codes.Aggregate.{Aggregate}
+pub use Rattle.meaning.specs.declared.codes.Relation.{Relation}
+pub use Rattle.meaning.specs.declared.codes.Literal.{Literal}
+pub use Rattle.meaning.specs.declared.codes.Literal.TheVariants.{Plain, Negated}
+pub use Rattle.meaning.specs.declared.codes.Sort.{Sort}
 
 abbrev pub atom_of : Literal → ℕ
-atom_of (plain a) = a
-atom_of (negated a) = a
+atom_of (Plain a) = a
+atom_of (Negated a) = a
 
 pub record Element : Type 0 where
   pub literal : Literal
@@ -49,26 +48,21 @@ pub record Reading : Type 0 where
 
 -- What the codes mean. A code that is not listed reads as the last, a given byte as not given; refusal 4 keeps it out.
 abbrev pub kind_of : ℕ → Kind
-kind_of code = get_or (certain ∷ «open» ∷ complete ∷ closed ∷ []) code closed
+kind_of code = get_or (Kind.Certain ∷ Kind.Open ∷ Kind.Complete ∷ Kind.Closed ∷ []) code Kind.Closed
 
 abbrev pub aggregate_of : ℕ → Aggregate
-aggregate_of code = get_or (count ∷ sum ∷ min ∷ max ∷ []) code max
+aggregate_of code = get_or (Aggregate.Count ∷ Aggregate.Sum ∷ Aggregate.Min ∷ Aggregate.Max ∷ []) code Aggregate.Max
 
 abbrev pub relation_of : ℕ → Relation
-relation_of code = get_or (eq ∷ ne ∷ lt ∷ le ∷ gt ∷ ge ∷ []) code ge
+relation_of code =
+    get_or (Relation.Eq ∷ Relation.Ne ∷ Relation.Lt ∷ Relation.Le ∷ Relation.Gt ∷ Relation.Ge ∷ []) code Relation.Ge
+
+abbrev pub sort_of : ℕ → Sort
+sort_of code = get_or (Sort.Atom ∷ Sort.NotAtom ∷ Sort.Comparison ∷ []) code Sort.Comparison
 
 abbrev pub literal_of : ℕ → ℕ → Literal
-literal_of zero a = plain a
-literal_of (suc sign) a = negated a
-
--- 0 undefined (or not given), 1 true, 2 false
-abbrev pub truth_of : ℕ → Truth
-truth_of code = get_or (Truth.undefined ∷ Truth.true ∷ Truth.false ∷ []) code Truth.undefined
-
-abbrev pub code_of : Truth → ℕ
-code_of Truth.undefined = 0
-code_of Truth.true = 1
-code_of Truth.false = 2
+literal_of zero a = Plain a
+literal_of (suc sign) a = Negated a
 
 -- what a rule and a comparison range over; ranges may overlap
 abbrev pub range : {X : Type 0} → ℕ → ℕ → List X → List X
@@ -90,8 +84,8 @@ comparison_of t c = record {
 
 -- by sort: 0 atom, 1 not atom, 2 comparison
 unfoldable pub hypothesis_of : Tables → ℕ → ℕ → Hypothesis
-hypothesis_of t zero i = literal (plain i)
-hypothesis_of t (suc zero) i = literal (negated i)
+hypothesis_of t zero i = literal (Plain i)
+hypothesis_of t (suc zero) i = literal (Negated i)
 hypothesis_of t (suc (suc sort)) i = comparison (comparison_of t (get_or t.comparisons i no_comparison))
 
 abbrev pub hypothesis_in : Tables → HypothesisRecord → Hypothesis
@@ -127,32 +121,32 @@ abbrev pub level_count : ℕ
 level_count = 128
 
 abbrev pub kind_at : List Kind → ℕ → Kind
-kind_at kinds a = get_or kinds a «open»
+kind_at kinds a = get_or kinds a Kind.Open
 
 abbrev pub level_at : List ℕ → ℕ → ℕ
 level_at levels a = get_or levels a level_count
 
 abbrev pub is_certain : Kind → Bool
-is_certain certain = true
-is_certain «open» = false
-is_certain complete = false
-is_certain closed = false
+is_certain Kind.Certain = true
+is_certain Kind.Open = false
+is_certain Kind.Complete = false
+is_certain Kind.Closed = false
 
 abbrev pub is_open : Kind → Bool
-is_open certain = false
-is_open «open» = true
-is_open complete = false
-is_open closed = false
+is_open Kind.Certain = false
+is_open Kind.Open = true
+is_open Kind.Complete = false
+is_open Kind.Closed = false
 
 abbrev pub is_closed : Kind → Bool
-is_closed certain = false
-is_closed «open» = false
-is_closed complete = false
-is_closed closed = true
+is_closed Kind.Certain = false
+is_closed Kind.Open = false
+is_closed Kind.Complete = false
+is_closed Kind.Closed = true
 
 -- complete or closed: what step (b) may make false
 abbrev pub is_complete : Kind → Bool
-is_complete certain = false
-is_complete «open» = false
-is_complete complete = true
-is_complete closed = true
+is_complete Kind.Certain = false
+is_complete Kind.Open = false
+is_complete Kind.Complete = true
+is_complete Kind.Closed = true

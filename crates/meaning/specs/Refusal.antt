@@ -1,13 +1,23 @@
 -- The refusals 1 to 12 in their order, each with its place. Document 01, "Refusals and their order". Assumes nothing.
-use Rattle.std.specs.Prelude.{ℕ, suc, ◌+◌, ◌*◌, Bool, true, false, not, cond, ◌&&◌, ◌||◌, List, [], ◌∷◌, ◌++◌, map, eqb, ltb, leb, length, take}
+use Rattle.std.specs.Prelude.{ℕ, suc, ◌+◌, ◌*◌, Bool, true, false, not, cond, ◌&&◌, ◌||◌, List, [], ◌∷◌, ◌++◌, map}
+use Rattle.std.specs.Prelude.{eqb, ltb, leb, length, take}
 use Rattle.std.specs.Bool.{beq}
 use Rattle.std.proofs.Math.Option.{Option, none, some}
 use Rattle.laws.specs.Lists.{any, gather, seek, twice}
-use Rattle.meaning.specs.Format.{Predicate, Atom, RuleRecord, HypothesisRecord, ComparisonRecord, ElementRecord}
+use Rattle.meaning.specs.declared.records.Predicate.{Predicate}
+use Rattle.meaning.specs.declared.records.Atom.{Atom}
+use Rattle.meaning.specs.declared.records.RuleRecord.{RuleRecord}
+use Rattle.meaning.specs.declared.records.HypothesisRecord.{HypothesisRecord}
+use Rattle.meaning.specs.declared.records.ComparisonRecord.{ComparisonRecord}
+use Rattle.meaning.specs.declared.records.ElementRecord.{ElementRecord}
 use Rattle.meaning.specs.Format.{Tables, contents, count_of, end, limits, offset_of, sizes, start, tables}
-use Rattle.meaning.specs.Reading.{Aggregate, Comparison, Element, Hypothesis, Kind, Literal, Reading, Relation}
-use Rattle.meaning.specs.Reading.{Rule, atom_of, elements_of, is_certain, is_open, kind_at, kind_of, level_at, levels_of}
-use Rattle.meaning.specs.Reading.{reading}
+use Rattle.meaning.specs.Reading.{Comparison, Element, Hypothesis, Reading}
+use Rattle.meaning.specs.declared.codes.Literal.{Literal}
+use Rattle.meaning.specs.declared.codes.Aggregate.{Aggregate}
+use Rattle.meaning.specs.declared.codes.Kind.{Kind}
+use Rattle.meaning.specs.declared.codes.Relation.{Relation}
+use Rattle.meaning.specs.Reading.{Rule, atom_of, elements_of, is_certain, is_open, kind_at, kind_of, level_at}
+use Rattle.meaning.specs.Reading.{levels_of, reading}
 
 pub record Refusal : Type 0 where
   pub number : ℕ
@@ -151,38 +161,38 @@ refusal8 predicates = lowest 8 1 (mixed_below predicates) predicates
 -- Positive use of an element: sign 0 in count >, count ≥, max >, max ≥, min <, min ≤; sign 1 in count <, count ≤.
 -- Here: source 002 also admits sign 1 in max <, max ≤, min >, min ≥.
 abbrev pub is_above : Relation → Bool
-is_above Relation.gt = true
-is_above Relation.ge = true
-is_above Relation.eq = false
-is_above Relation.ne = false
-is_above Relation.lt = false
-is_above Relation.le = false
+is_above Relation.Gt = true
+is_above Relation.Ge = true
+is_above Relation.Eq = false
+is_above Relation.Ne = false
+is_above Relation.Lt = false
+is_above Relation.Le = false
 
 abbrev pub is_below : Relation → Bool
-is_below Relation.lt = true
-is_below Relation.le = true
-is_below Relation.eq = false
-is_below Relation.ne = false
-is_below Relation.gt = false
-is_below Relation.ge = false
+is_below Relation.Lt = true
+is_below Relation.Le = true
+is_below Relation.Eq = false
+is_below Relation.Ne = false
+is_below Relation.Gt = false
+is_below Relation.Ge = false
 
 -- sign 0 is positive
 abbrev pub grows : Aggregate → Relation → Bool
-grows Aggregate.count r = is_above r
-grows Aggregate.sum r = false
-grows Aggregate.min r = is_below r
-grows Aggregate.max r = is_above r
+grows Aggregate.Count r = is_above r
+grows Aggregate.Sum r = false
+grows Aggregate.Min r = is_below r
+grows Aggregate.Max r = is_above r
 
 -- sign 1 is positive
 abbrev pub shrinks : Aggregate → Relation → Bool
-shrinks Aggregate.count r = is_below r
-shrinks Aggregate.sum r = false
-shrinks Aggregate.min r = false
-shrinks Aggregate.max r = false
+shrinks Aggregate.Count r = is_below r
+shrinks Aggregate.Sum r = false
+shrinks Aggregate.Min r = false
+shrinks Aggregate.Max r = false
 
 unfoldable pub positive_in : Comparison → Literal → Bool
-positive_in c (Literal.plain a) = grows c.aggregate c.relation
-positive_in c (Literal.negated a) = shrinks c.aggregate c.relation
+positive_in c (Literal.Plain a) = grows c.aggregate c.relation
+positive_in c (Literal.Negated a) = shrinks c.aggregate c.relation
 
 -- A rule uses its literals' atoms and those of all elements of its comparisons.
 pub record Use : Type 0 where
@@ -193,8 +203,8 @@ abbrev pub element_use : Comparison → Element → Use
 element_use c e = record { atom = atom_of e.literal; positive = positive_in c e.literal }
 
 unfoldable pub uses_of : Hypothesis → List Use
-uses_of (Hypothesis.literal (Literal.plain a)) = record { atom = a; positive = true } ∷ []
-uses_of (Hypothesis.literal (Literal.negated a)) = record { atom = a; positive = false } ∷ []
+uses_of (Hypothesis.literal (Literal.Plain a)) = record { atom = a; positive = true } ∷ []
+uses_of (Hypothesis.literal (Literal.Negated a)) = record { atom = a; positive = false } ∷ []
 uses_of (Hypothesis.comparison c) = map (element_use c) c.elements
 
 unfoldable pub uses : Rule → List Use

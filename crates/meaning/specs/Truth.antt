@@ -3,13 +3,17 @@
 use Rattle.std.specs.Prelude.{Bool, not, cond, ◌&&◌, ◌||◌, List, [], ◌∷◌, ℤ, pos, ◌+ℤ◌}
 use Rattle.std.specs.Int.Signed.{lt_z}
 use Rattle.laws.specs.Lists.{all, any}
-use Rattle.theory.specs.Truth.{Truth, flip, is_true, is_false}
+use Rattle.theory.specs.Truth.{flip, is_true, is_false}
+use Rattle.theory.specs.declared.answer.Truth.{Truth}
 use Rattle.theory.specs.Answers.{Answers}
-use Rattle.meaning.specs.Reading.{Aggregate, Comparison, Element, Hypothesis, Literal, Relation}
+use Rattle.meaning.specs.Reading.{Comparison, Element, Hypothesis}
+use Rattle.meaning.specs.declared.codes.Literal.{Literal}
+use Rattle.meaning.specs.declared.codes.Aggregate.{Aggregate}
+use Rattle.meaning.specs.declared.codes.Relation.{Relation}
 
 unfoldable pub literal_truth : Answers → Literal → Truth
-literal_truth A (Literal.plain a) = A a
-literal_truth A (Literal.negated a) = flip (A a)
+literal_truth A (Literal.Plain a) = A a
+literal_truth A (Literal.Negated a) = flip (A a)
 
 -- An element is definite if its literal is true, possible if its literal is not false.
 abbrev pub element_truth : Answers → Element → Truth
@@ -23,12 +27,12 @@ possible A e = not (is_false (element_truth A e))
 
 -- w stands in a relation to k, by the order `below`
 abbrev pub related : (ℤ → ℤ → Bool) → Relation → ℤ → ℤ → Bool
-related below Relation.eq w k = not (below w k) && not (below k w)
-related below Relation.ne w k = below w k || below k w
-related below Relation.lt w k = below w k
-related below Relation.le w k = not (below k w)
-related below Relation.gt w k = below k w
-related below Relation.ge w k = not (below w k)
+related below Relation.Eq w k = not (below w k) && not (below k w)
+related below Relation.Ne w k = below w k || below k w
+related below Relation.Lt w k = below w k
+related below Relation.Le w k = not (below k w)
+related below Relation.Gt w k = below k w
+related below Relation.Ge w k = not (below w k)
 
 -- Count and sum lie between a least and a most, by what each element weighs. Count is sum with weights of 1.
 abbrev pub own_weight : Element → ℤ
@@ -39,15 +43,15 @@ one e = pos 1
 
 -- what an element adds to the least: its weight if definite, its negative weight if undefined
 abbrev pub least_share : Truth → ℤ → ℤ
-least_share Truth.undefined w = cond (lt_z w (pos 0)) w (pos 0)
-least_share Truth.true w = w
-least_share Truth.false w = pos 0
+least_share Truth.Undefined w = cond (lt_z w (pos 0)) w (pos 0)
+least_share Truth.True w = w
+least_share Truth.False w = pos 0
 
 -- and to the most: its weight if definite, its positive weight if undefined
 abbrev pub most_share : Truth → ℤ → ℤ
-most_share Truth.undefined w = cond (lt_z (pos 0) w) w (pos 0)
-most_share Truth.true w = w
-most_share Truth.false w = pos 0
+most_share Truth.Undefined w = cond (lt_z (pos 0) w) w (pos 0)
+most_share Truth.True w = w
+most_share Truth.False w = pos 0
 
 abbrev pub total : (Element → ℤ) → List Element → ℤ
 total share [] = pos 0
@@ -60,12 +64,12 @@ unfoldable pub most : (Element → ℤ) → Answers → List Element → ℤ
 most weigh A es = total (λ e. most_share (element_truth A e) (weigh e)) es
 
 unfoldable pub between : Relation → ℤ → ℤ → ℤ → Bool
-between Relation.eq low high k = related lt_z Relation.eq low k && related lt_z Relation.eq high k
-between Relation.ne low high k = related lt_z Relation.gt low k || related lt_z Relation.lt high k
-between Relation.lt low high k = related lt_z Relation.lt high k
-between Relation.le low high k = related lt_z Relation.le high k
-between Relation.gt low high k = related lt_z Relation.gt low k
-between Relation.ge low high k = related lt_z Relation.ge low k
+between Relation.Eq low high k = related lt_z Relation.Eq low k && related lt_z Relation.Eq high k
+between Relation.Ne low high k = related lt_z Relation.Gt low k || related lt_z Relation.Lt high k
+between Relation.Lt low high k = related lt_z Relation.Lt high k
+between Relation.Le low high k = related lt_z Relation.Le high k
+between Relation.Gt low high k = related lt_z Relation.Gt low k
+between Relation.Ge low high k = related lt_z Relation.Ge low k
 
 -- count or sum, by what each element weighs
 abbrev pub weighed : (Element → ℤ) → Relation → Answers → List Element → ℤ → Bool
@@ -79,14 +83,14 @@ abbrev pub all_possible : (ℤ → Bool) → Answers → List Element → Bool
 all_possible test A es = all (λ e. not (possible A e) || test e.weight) es
 
 unfoldable pub extreme : (ℤ → ℤ → Bool) → Relation → Answers → List Element → ℤ → Bool
-extreme below Relation.eq A es k =
-    some_definite (λ w. related below Relation.eq w k) A es && all_possible (λ w. related below Relation.le w k) A es
-extreme below Relation.ne A es k =
-    all_possible (λ w. related below Relation.ne w k) A es || some_definite (λ w. related below Relation.gt w k) A es
-extreme below Relation.lt A es k = all_possible (λ w. related below Relation.lt w k) A es
-extreme below Relation.le A es k = all_possible (λ w. related below Relation.le w k) A es
-extreme below Relation.gt A es k = some_definite (λ w. related below Relation.gt w k) A es
-extreme below Relation.ge A es k = some_definite (λ w. related below Relation.ge w k) A es
+extreme below Relation.Eq A es k =
+    some_definite (λ w. related below Relation.Eq w k) A es && all_possible (λ w. related below Relation.Le w k) A es
+extreme below Relation.Ne A es k =
+    all_possible (λ w. related below Relation.Ne w k) A es || some_definite (λ w. related below Relation.Gt w k) A es
+extreme below Relation.Lt A es k = all_possible (λ w. related below Relation.Lt w k) A es
+extreme below Relation.Le A es k = all_possible (λ w. related below Relation.Le w k) A es
+extreme below Relation.Gt A es k = some_definite (λ w. related below Relation.Gt w k) A es
+extreme below Relation.Ge A es k = some_definite (λ w. related below Relation.Ge w k) A es
 
 -- never true without a definite element
 abbrev pub attained : (ℤ → ℤ → Bool) → Relation → Answers → List Element → ℤ → Bool
@@ -97,29 +101,29 @@ abbrev pub above : ℤ → ℤ → Bool
 above w k = lt_z k w
 
 abbrev pub mirror : Relation → Relation
-mirror Relation.eq = Relation.eq
-mirror Relation.ne = Relation.ne
-mirror Relation.lt = Relation.gt
-mirror Relation.le = Relation.ge
-mirror Relation.gt = Relation.lt
-mirror Relation.ge = Relation.le
+mirror Relation.Eq = Relation.Eq
+mirror Relation.Ne = Relation.Ne
+mirror Relation.Lt = Relation.Gt
+mirror Relation.Le = Relation.Ge
+mirror Relation.Gt = Relation.Lt
+mirror Relation.Ge = Relation.Le
 
 abbrev pub opposite : Relation → Relation
-opposite Relation.eq = Relation.ne
-opposite Relation.ne = Relation.eq
-opposite Relation.lt = Relation.ge
-opposite Relation.le = Relation.gt
-opposite Relation.gt = Relation.le
-opposite Relation.ge = Relation.lt
+opposite Relation.Eq = Relation.Ne
+opposite Relation.Ne = Relation.Eq
+opposite Relation.Lt = Relation.Ge
+opposite Relation.Le = Relation.Gt
+opposite Relation.Gt = Relation.Le
+opposite Relation.Ge = Relation.Lt
 
 unfoldable pub holds : Aggregate → Relation → Answers → List Element → ℤ → Bool
-holds Aggregate.count r A es k = weighed one r A es k
-holds Aggregate.sum r A es k = weighed own_weight r A es k
-holds Aggregate.min r A es k = attained above (mirror r) A es k
-holds Aggregate.max r A es k = attained lt_z r A es k
+holds Aggregate.Count r A es k = weighed one r A es k
+holds Aggregate.Sum r A es k = weighed own_weight r A es k
+holds Aggregate.Min r A es k = attained above (mirror r) A es k
+holds Aggregate.Max r A es k = attained lt_z r A es k
 
 abbrev pub decided : Bool → Bool → Truth
-decided t f = cond t Truth.true (cond f Truth.false Truth.undefined)
+decided t f = cond t Truth.True (cond f Truth.False Truth.Undefined)
 
 -- A comparison is false when its opposite is true, else undefined.
 unfoldable pub comparison_truth : Answers → Comparison → Truth
@@ -133,10 +137,10 @@ hypothesis_truth A (Hypothesis.comparison c) = comparison_truth A c
 
 -- A rule body is true when all hypotheses are true and false when one is false.
 abbrev pub meet : Truth → Truth → Truth
-meet Truth.undefined y = cond (is_false y) Truth.false Truth.undefined
-meet Truth.true y = y
-meet Truth.false y = Truth.false
+meet Truth.Undefined y = cond (is_false y) Truth.False Truth.Undefined
+meet Truth.True y = y
+meet Truth.False y = Truth.False
 
 unfoldable pub body_truth : Answers → List Hypothesis → Truth
-body_truth A [] = Truth.true
+body_truth A [] = Truth.True
 body_truth A (h ∷ hs) = meet (hypothesis_truth A h) (body_truth A hs)

@@ -2,9 +2,18 @@
 -- "The rule book". Assumes nothing.
 use Rattle.std.specs.Prelude.{ℕ, suc, ◌+◌, ◌-◌, ◌*◌, ◌/◌, ◌%◌, List, [], ◌∷◌, ◌++◌, map, ℤ, pos, negsuc, length}
 use Rattle.laws.specs.Lists.{gather}
-use Rattle.meaning.specs.Format.{Predicate, Atom, RuleRecord, HypothesisRecord, ComparisonRecord, ElementRecord}
+use Rattle.meaning.specs.declared.records.Predicate.{Predicate}
+use Rattle.meaning.specs.declared.records.Atom.{Atom}
+use Rattle.meaning.specs.declared.records.RuleRecord.{RuleRecord}
+use Rattle.meaning.specs.declared.records.HypothesisRecord.{HypothesisRecord}
+use Rattle.meaning.specs.declared.records.ComparisonRecord.{ComparisonRecord}
+use Rattle.meaning.specs.declared.records.ElementRecord.{ElementRecord}
 use Rattle.meaning.specs.Format.{Tables, contents, sizes}
-use Rattle.meaning.specs.Reading.{Aggregate, Comparison, Element, Hypothesis, Kind, Literal, Relation, Rule}
+use Rattle.meaning.specs.Reading.{Comparison, Element, Hypothesis, Rule}
+use Rattle.meaning.specs.declared.codes.Literal.{Literal}
+use Rattle.meaning.specs.declared.codes.Aggregate.{Aggregate}
+use Rattle.meaning.specs.declared.codes.Kind.{Kind}
+use Rattle.meaning.specs.declared.codes.Relation.{Relation}
 use Rattle.meaning.specs.Reading.{atom_of}
 
 -- Numbers are little-endian.
@@ -77,30 +86,30 @@ book_of t = entries contents sizes (counts t) ++ bodies t
 
 -- The codes: what Reading's functions from codes are asked.
 abbrev pub kind_code : Kind → ℕ
-kind_code Kind.certain = 0
-kind_code Kind.«open» = 1
-kind_code Kind.complete = 2
-kind_code Kind.closed = 3
+kind_code Kind.Certain = 0
+kind_code Kind.Open = 1
+kind_code Kind.Complete = 2
+kind_code Kind.Closed = 3
 
 abbrev pub aggregate_code : Aggregate → ℕ
-aggregate_code Aggregate.count = 0
-aggregate_code Aggregate.sum = 1
-aggregate_code Aggregate.min = 2
-aggregate_code Aggregate.max = 3
+aggregate_code Aggregate.Count = 0
+aggregate_code Aggregate.Sum = 1
+aggregate_code Aggregate.Min = 2
+aggregate_code Aggregate.Max = 3
 
 -- =, ≠, <, ≤, >, ≥
 abbrev pub relation_code : Relation → ℕ
-relation_code Relation.eq = 0
-relation_code Relation.ne = 1
-relation_code Relation.lt = 2
-relation_code Relation.le = 3
-relation_code Relation.gt = 4
-relation_code Relation.ge = 5
+relation_code Relation.Eq = 0
+relation_code Relation.Ne = 1
+relation_code Relation.Lt = 2
+relation_code Relation.Le = 3
+relation_code Relation.Gt = 4
+relation_code Relation.Ge = 5
 
 -- 0 atom, 1 not atom: the sign of an element, and the sort of a hypothesis that is a literal
 abbrev pub sign_code : Literal → ℕ
-sign_code (Literal.plain a) = 0
-sign_code (Literal.negated a) = 1
+sign_code (Literal.Plain a) = 0
+sign_code (Literal.Negated a) = 1
 
 -- rules whose hypotheses start at `first`, each next one's where the last one's ended
 unfoldable pub rule_records : ℕ → List Rule → List RuleRecord

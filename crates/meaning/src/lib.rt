@@ -1,2 +1,7 @@
-// No code: the crate holds definitions and laws alone.
+// Document 01 as definitions, and the demands. Of code it has the types that definitions and functions share.
 #![tactic(auto)]
+
+// kinds, aggregates and relations
+pub mod codes;
+// the records of the six tables
+pub mod records;

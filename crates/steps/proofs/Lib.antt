@@ -13,7 +13,7 @@ pub mod AssumedLaws
 pub mod FailLaws
 -- what a search knows of bodies
 pub mod KnownLaws
--- one rule's strike
+-- how many atoms are left to strike
 pub mod StrikeLaws
 -- what is assumed at the start
 pub mod StartLaws

@@ -6,6 +6,7 @@ pub mod fails;
 pub mod gather;
 pub mod order;
 pub mod round;
+pub mod search;
 pub mod settle;
 pub mod strike;
 pub mod unfounded;

@@ -1,75 +1,88 @@
-// What step (c) remembers: the rules that have struck in some search, in the order in which they last did. It is a
-// ring: `order[r]` is the rule after rule r, `order[2048]` the first one, 2,048 stands after the last, and 65,535 for
-// a rule that has never struck. Any content is right: a rule strikes only if it must, a try ends after as many rules
-// that do not strike as there are, and then comes a pass over all of them. So no contract says what an order holds.
-ghost use Rattle.std.specs.Prelude.{◌≡◌, ◌<◌, length};
+// What step (c) remembers: the rules that have struck in some search, in the order in which they last did. Any content
+// is right: a rule strikes only if it must, a try ends after as many rules that do not strike as there are, and then
+// comes a pass over all of them. So no contract says what an order holds.
+ghost use Rattle.std.specs.Prelude.{◌<◌, IfSome};
 
-use book::casts::{short, wide};
+use book::tables::MOST_RULES;
 
 // Where the ring begins and ends.
 pub const START: usize = 2048;
 
-const NEVER: u16 = 65535;
-
-// The order before the first search.
-pub fn empty_order() -> [u16; 2049]
-    ensures { length result ≡ 2049 }
-{
-    let mut order = [NEVER; 2049];
-    order[START] = 2048;
-    order
+// A list linked by index, in fixed memory: there is no heap, and a rule that strikes moves to the front at once.
+#[derive(Drop)]
+pub struct Order {
+    // the rule after each, or START after the last; a rule that has never struck stands after itself
+    next: [u16; 2049],
 }
 
-pub fn after(order: &[u16], p: usize) -> usize
-    requires { p < length order.now }
-{
-    wide(order[p])
-}
-
-// Rule r, which stands after p, moves to stand after `front`; the others keep their order. Returns after which one the
-// next of them stands.
-pub fn advance(order: &mut [u16], front: usize, p: usize, r: usize) -> usize
-    requires { (length order.old ≡ 2049) × (front < 2049) × (p < 2049) × (r < 2049) }
-    ensures { result < 2049 }
-{
-    if p == front {
-        return r;
-    }
-    order[p] = order[r];
-    order[r] = order[front];
-    order[front] = short(r);
-    p
-}
-
-// After which one, from `front` on, rule r stands; r itself if there is none.
-fn before(order: &[u16], front: usize, r: usize) -> usize
-    requires { (length order.now ≡ 2049) × (front < 2049) × (r < 2049) }
-    ensures { result < 2049 }
-{
-    let mut p = front;
-    let mut i = 0;
-    while i < START {
-        let next = wide(order[p]);
-        i += 1;
-        if next == r {
-            return p;
+impl Order {
+    // The order before the first search.
+    pub fn empty() -> Self {
+        let mut order = Order { next: [0; 2049] };
+        for p in 0..2049 {
+            order.next[p] = p as u16;
         }
-        if START <= next {
+        order
+    }
+
+    pub fn after(&self, p: usize) -> usize
+        requires { p < 2049 }
+    {
+        usize::from(self.next[p])
+    }
+
+    fn insert(&mut self, front: usize, r: usize)
+        requires front { front < 2049 }
+        requires rule { r < 2049 }
+    {
+        self.next[r] = self.next[front];
+        self.next[front] = r as u16;
+    }
+
+    // Rule r, which stands after p, moves to stand after `front`; the others keep their order. Returns after which one
+    // the next of them stands.
+    pub fn advance(&mut self, front: usize, p: usize, r: usize) -> usize
+        requires front { front < 2049 }
+        requires before { p < 2049 }
+        requires rule { r < 2049 }
+        ensures { result < 2049 }
+    {
+        if p == front {
             return r;
         }
-        p = next;
+        self.next[p] = self.next[r];
+        self.insert(front, r);
+        p
     }
-    r
-}
 
-// Rule r, which struck in a pass, stands after `front` from now on.
-pub fn remember(order: &mut [u16], front: usize, r: usize)
-    requires { (length order.old ≡ 2049) × (front < 2049) × (r < 2049) }
-{
-    if order[r] == NEVER {
-        order[r] = order[front];
-        order[front] = short(r);
-        return;
+    // After which one, from `front` on, rule r stands.
+    fn before(&self, front: usize, r: usize) -> Option<usize>
+        requires { front < 2049 }
+        ensures { IfSome result (λ p. p < 2049) }
+    {
+        let mut p = front;
+        for _ in 0..MOST_RULES {
+            let next = self.after(p);
+            if next == r {
+                return Some(p);
+            }
+            if START <= next {
+                return None;
+            }
+            p = next;
+        }
+        None
     }
-    advance(order, front, before(order, front, r), r);
+
+    // Rule r, which struck in a pass, stands after `front` from now on.
+    pub fn remember(&mut self, front: usize, r: usize)
+        requires front { front < 2049 }
+        requires rule { r < 2049 }
+    {
+        if self.after(r) == r {
+            self.insert(front, r);
+        } else if let Some(p) = self.before(front, r) {
+            self.advance(front, p, r);
+        }
+    }
 }

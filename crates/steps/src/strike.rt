@@ -1,186 +1,113 @@
 // Step (c), one rule after the other: a rule whose body is not false at what is assumed takes its head back.
-ghost use Rattle.std.specs.Prelude.{◌≡◌, true, ◌<◌, ◌≤◌, length, set};
-ghost use Rattle.meaning.specs.Format.{atom_count, rule_count};
-ghost use Rattle.book.specs.Records.{rule_in};
-ghost use Rattle.steps.specs.Work.{Ready};
-ghost use Rattle.steps.specs.Strike.{Come, Known, Searched, Struck, strikes_at};
+ghost use Rattle.std.specs.Prelude.{◌≡◌, true, false, ◌<◌, ◌≤◌};
+ghost use Rattle.meaning.specs.Format.{rule_count};
+ghost use Rattle.steps.specs.Work.{Exact};
+ghost use Rattle.steps.specs.Strike.{strikes_at};
+ghost use Rattle.steps.specs.Search.{Looked, book_in};
 
-use crate::fails::supports;
-use crate::order::{advance, after, remember};
-use book::fields::rule_head;
-use book::readers::count_of;
+use crate::order::Order;
+use crate::search::Search;
 use book::tables::RULES;
 use judge::literal::{answer, set_answer};
+use theory::answer::Truth;
 
-// How far a search has come: the rule that struck last, how many atoms are left that are only assumed false, and
-// whether there may be more to strike.
-#[derive(Drop)]
-pub struct Search {
-    pub front: usize,
-    pub left: usize,
-    pub more: bool,
-}
-
-// Does rule r support a head that is undefined and only assumed false?
-fn strikes(
-    book: &[u8],
-    answers: &[u8],
-    assumed: &[u8],
-    known: &mut [u16],
-    left: usize,
-    r: usize,
-) -> bool
-    requires { let b = book.now in
-        Ready b × (length answers.now ≡ atom_count b) × (atom_count b ≤ length assumed.now)
-        × Known b assumed.now known.old left × (r < rule_count b) }
-    ensures is { result ≡ strikes_at book.now answers.now assumed.now r }
-    ensures known { Known book.now assumed.now known.new left }
-{
-    let h = rule_head(book, r);
-    if answer(assumed, h) != 2 {
-        return false;
-    }
-    if answer(answers, h) != 0 {
-        return false;
-    }
-    supports(book, assumed, known, left, r)
-}
-
-// The head of rule r counts as false no longer.
-fn strike_out(book: &[u8], assumed: &mut [u8], r: usize)
-    requires { let b = book.now in Ready b × (atom_count b ≤ length assumed.old) × (r < rule_count b) }
-    ensures { assumed.new ≡ set assumed.old (rule_in book.now r).head 0 }
-{
-    set_answer(assumed, rule_head(book, r), 0);
-}
-
-// Rule r strikes, if it must. Returns how many are left.
-fn strike(
-    book: &[u8],
-    level: usize,
-    answers: &[u8],
-    assumed: &mut [u8],
-    known: &mut [u16],
-    left: usize,
-    r: usize,
-) -> usize
-    requires { let b = book.now in let A = answers.now in
-        Ready b × (length A ≡ atom_count b) × Searched b level A assumed.old known.old left × (r < rule_count b) }
-    ensures { Struck book.now level answers.now assumed.old
-        assumed.new known.new r left result }
-{
-    if strikes(book, answers, assumed, known, left, r) {
-        strike_out(book, assumed, r);
-        return left - 1;
-    }
-    left
-}
-
-// A try: the remembered rules that have not struck in this search, in their order. One that strikes moves to the front.
-fn try_order(
-    book: &[u8],
-    level: usize,
-    answers: &[u8],
-    assumed: &mut [u8],
-    known: &mut [u16],
-    order: &mut [u16],
-    start: Search,
-) -> Search
-    requires { let b = book.now in let A = answers.now in
-        Ready b × (length A ≡ atom_count b) × (length order.old ≡ 2049) × (start.front < 2049)
-        × Searched b level A assumed.old known.old start.left }
-    ensures { Come book.now level answers.now assumed.new known.new
-        start.left result.front result.left result.more }
-{
-    let rules = count_of(book, RULES);
-    let mut front = start.front;
-    let mut left = start.left;
-    let mut p = front;
-    let mut i = 0;
-    while i < rules {
-        if left == 0 {
-            break;
+impl<'a> Search<'a> {
+    // Does rule r support a head that is undefined and only assumed false?
+    #[tactic(auto, unfolding(crate::specs::Strike::strikes_at))]
+    fn strikes(&mut self, r: usize) -> bool
+        requires { r < rule_count (book_in self.old) }
+        ensures is { let s = self.old in
+            result ≡ strikes_at (book_in s) s.level.answers.now s.assumed r }
+        ensures same { Looked self.old self.new }
+    {
+        let h = self.level.book.frame.rule(r).head;
+        if answer(&self.assumed, h) != Truth::False {
+            return false;
         }
-        let r = after(order, p);
-        if rules <= r {
-            break;
+        if answer(self.level.answers, h) != Truth::Undefined {
+            return false;
         }
-        let was = left;
-        left = strike(book, level, answers, assumed, known, was, r);
-        if left < was {
-            p = advance(order, front, p, r);
-            front = r;
-        } else {
-            i += 1;
-            p = r;
+        self.supports(r)
+    }
+
+    // Rule r strikes, if it must: its head counts as false no longer. Returns whether it did.
+    #[tactic(auto, using(crate::proofs::SearchLaws::strike_some, crate::proofs::SearchLaws::strike_lower))]
+    fn strike(&mut self, r: usize) -> bool
+        requires { r < rule_count (book_in self.old) }
+        ensures is { let s = self.old in
+            result ≡ strikes_at (book_in s) s.level.answers.now s.assumed r }
+        ensures level { self.new.level ≡ self.old.level }
+        ensures lower { result ≡ true → self.new.left < self.old.left }
+        ensures same { result ≡ false → Looked self.old self.new }
+    {
+        if !self.strikes(r) {
+            return false;
+        }
+        let h = self.level.book.frame.rule(r).head;
+        set_answer(&mut self.assumed, h, Truth::Undefined);
+        self.left -= 1;
+        true
+    }
+
+    // A try: the remembered rules that have not struck in this search, in their order. One that strikes moves to the
+    // front.
+    fn try_order(&mut self, order: &mut Order)
+        ensures level { self.new.level ≡ self.old.level }
+        ensures fewer { self.new.left ≤ self.old.left }
+    {
+        let rules = self.level.book.frame.count(RULES);
+        let mut p = self.front;
+        let mut quiet = 0;
+        // a rule that strikes does not count, as it would in a `for`
+        while quiet < rules {
+            if self.left == 0 {
+                break;
+            }
+            let r = order.after(p);
+            if rules <= r {
+                break;
+            }
+            if self.strike(r) {
+                p = order.advance(self.front, p, r);
+                self.front = r;
+            } else {
+                p = r;
+                quiet += 1;
+            }
         }
     }
-    Search {
-        front,
-        left,
-        more: left != 0,
-    }
-}
 
-// One pass over all the rules; those that strike are remembered. One that strikes nothing ends the search.
-fn pass(
-    book: &[u8],
-    level: usize,
-    answers: &[u8],
-    assumed: &mut [u8],
-    known: &mut [u16],
-    order: &mut [u16],
-    start: Search,
-) -> Search
-    requires { let b = book.now in let A = answers.now in
-        Ready b × (length A ≡ atom_count b) × (length order.old ≡ 2049) × (start.front < 2049)
-        × Searched b level A assumed.old known.old start.left }
-    ensures come { Come book.now level answers.now assumed.new
-        known.new start.left result.front result.left result.more }
-    ensures lower { result.more ≡ true → result.left < start.left }
-{
-    let rules = count_of(book, RULES);
-    let most = start.left;
-    let mut front = start.front;
-    let mut left = most;
-    let mut k = 0;
-    while k < rules {
-        let r = k;
-        k += 1;
-        let now = strike(book, level, answers, assumed, known, left, r);
-        if now < left {
-            remember(order, front, r);
-            front = r;
+    // One pass over all the rules; those that strike are remembered. One that strikes nothing ends the search.
+    #[tactic(auto, using(crate::proofs::SearchLaws::passing))]
+    fn pass(&mut self, order: &mut Order) -> bool
+        ensures level { self.new.level ≡ self.old.level }
+        ensures lower { result ≡ true → self.new.left < self.old.left }
+        ensures ends { let s = self.new in
+            result ≡ false → Exact (book_in s) s.level.number s.level.answers.now s.assumed }
+    {
+        let mut struck = false;
+        for r in 0..self.level.book.frame.count(RULES) {
+            if self.strike(r) {
+                order.remember(self.front, r);
+                self.front = r;
+                struck = true;
+            }
         }
-        left = now;
+        struck
     }
-    Search {
-        front,
-        left,
-        more: left < most,
-    }
-}
 
-// A try, and a pass if that leaves something.
-pub fn turn(
-    book: &[u8],
-    level: usize,
-    answers: &[u8],
-    assumed: &mut [u8],
-    known: &mut [u16],
-    order: &mut [u16],
-    start: Search,
-) -> Search
-    requires { let b = book.now in let A = answers.now in
-        Ready b × (length A ≡ atom_count b) × (length order.old ≡ 2049) × (start.front < 2049)
-        × Searched b level A assumed.old known.old start.left }
-    ensures come { Come book.now level answers.now assumed.new
-        known.new start.left result.front result.left result.more }
-    ensures lower { result.more ≡ true → result.left < start.left }
-{
-    let tried = try_order(book, level, answers, assumed, known, order, start);
-    if tried.more {
-        return pass(book, level, answers, assumed, known, order, tried);
+    // A try, and a pass if that leaves something. Returns whether there may be more to strike.
+    #[tactic(auto, using(crate::proofs::SearchLaws::left_none))]
+    pub fn turn(&mut self, order: &mut Order) -> bool
+        ensures level { self.new.level ≡ self.old.level }
+        ensures lower { result ≡ true → self.new.left < self.old.left }
+        ensures ends { let s = self.new in
+            result ≡ false → Exact (book_in s) s.level.number s.level.answers.now s.assumed }
+    {
+        self.try_order(order);
+        if self.left == 0 {
+            return false;
+        }
+        self.pass(order)
     }
-    tried
 }

@@ -1,105 +1,66 @@
 // Step (c): the greatest unfounded set, found by striking out. No set is held but the assumed answers: at first all
 // candidates of the level count as false, and a rule whose body is not false at what is assumed takes its head back.
-ghost use Rattle.std.specs.Prelude.{◌≡◌, ◌&&◌, cond, ◌<◌, length, set};
-ghost use Rattle.theory.specs.Truth.{is_false, is_undefined};
+ghost use Rattle.std.specs.Prelude.{◌≡◌, length};
 ghost use Rattle.meaning.specs.Format.{atom_count};
-ghost use Rattle.meaning.specs.Reading.{code_of, truth_of};
-ghost use Rattle.steps.specs.Work.{Exact, Ready};
+ghost use Rattle.steps.specs.Work.{Exact};
 ghost use Rattle.steps.specs.Due.{Due};
-ghost use Rattle.steps.specs.Strike.{Assumed, counted_truth, waiting};
+ghost use Rattle.steps.specs.Strike.{counted_truth};
 
-use crate::order::START;
-use crate::strike::{Search, turn};
-use book::casts::wide;
-use book::tables::MOST_ATOMS;
+use crate::order::{Order, START};
+use crate::search::{Finding, Level, Search};
+use book::ready::Book;
+use book::tables::{MOST_ATOMS, MOST_COMPARISONS};
 use judge::literal::{answer, set_answer};
+use theory::answer::Truth;
 
 // An atom to which all three steps are due counts as false.
-fn counted(due: u8, x: u8) -> u8
-    requires { x < 3 }
-    ensures { result ≡ code_of (counted_truth due (truth_of x)) }
+fn counted(due: u8, x: Truth) -> Truth
+    ensures { result ≡ counted_truth due x }
 {
-    if due == 3 { 2 } else { x }
+    if due == 3 { Truth::False } else { x }
 }
 
-fn one(t: bool) -> u16
-    ensures { result ≡ cond t 1 0 }
+// The start of a search: all candidates count as false, the atoms to which all three steps are due.
+#[tactic(auto, using(crate::proofs::StartLaws::counted_fits))]
+fn assume<'a>(level: Level<'a>, due: &[u8; MOST_ATOMS]) -> Search<'a>
+    requires { Due level.book.frame.bytes.now level.number level.answers.now due.now }
+    ensures { result.level ≡ level.entry }
 {
-    if t { 1 } else { 0 }
-}
-
-// What is assumed of atom a, whose answer is x. Returns 1 if it is only assumed false, else 0.
-fn assume_at(assumed: &mut [u8], a: usize, due: u8, x: u8) -> u16
-    requires { (a < length assumed.old) × (x < 3) × (due ≡ 3 → x ≡ 0) }
-    ensures sets { assumed.new ≡ set assumed.old a
-        (code_of (counted_truth due (truth_of x))) }
-    ensures one { result ≡ cond (is_false (counted_truth due (truth_of x)) && is_undefined (truth_of x)) 1 0 }
-{
-    let v = counted(due, x);
-    set_answer(assumed, a, v);
-    one(due == 3)
-}
-
-// What is assumed, and how many atoms are undefined and only assumed false.
-#[derive(Drop)]
-pub struct Assumption {
-    pub answers: [u8; MOST_ATOMS],
-    pub left: usize,
-}
-
-// All candidates counted as false: the atoms to which all three steps are due.
-fn assume(book: &[u8], level: usize, answers: &[u8], due: &[u8]) -> Assumption
-    requires { let b = book.now in let A = answers.now in
-        Ready b × (length A ≡ atom_count b) × Due b level A due.now }
-    ensures assumed { Assumed book.now level answers.now result.answers }
-    ensures left { result.left ≡ waiting answers.now result.answers (atom_count book.now) }
-{
-    let n = answers.len();
-    let mut assumed = [0u8; MOST_ATOMS];
+    let mut assumed = [Truth::Undefined; MOST_ATOMS];
     let mut left = 0u16;
-    let mut a = 0;
-    while a < n {
-        let x = answer(answers, a);
-        left += assume_at(&mut assumed, a, due[a], x);
-        a += 1;
+    for a in 0..level.answers.len() {
+        let x = answer(level.answers, a);
+        set_answer(&mut assumed, a, counted(due[a], x));
+        left += u16::from(due[a] == 3);
     }
-    Assumption {
-        answers: assumed,
-        left: wide(left),
+    Search {
+        level,
+        assumed,
+        comparisons: [Finding::Unknown; MOST_COMPARISONS],
+        clear: [false; 64],
+        left: usize::from(left),
+        front: START,
     }
 }
 
 // A search: turns until nothing is left, or a pass strikes nothing out.
 pub fn unfounded(
-    book: &[u8],
+    book: &Book,
     level: usize,
-    answers: &[u8],
-    due: &[u8],
-    order: &mut [u16],
-) -> [u8; MOST_ATOMS]
-    requires { let b = book.now in let A = answers.now in
-        Ready b × (length A ≡ atom_count b) × Due b level A due.now × (length order.old ≡ 2049) }
-    ensures { Exact book.now level answers.now result }
+    answers: &[Truth],
+    due: &[u8; MOST_ATOMS],
+    order: &mut Order,
+) -> [Truth; MOST_ATOMS]
+    requires whole { length answers.now ≡ atom_count book.now.frame.bytes.now }
+    requires due { Due book.now.frame.bytes.now level answers.now due.now }
+    ensures { Exact book.now.frame.bytes.now level answers.now result }
 {
-    let start = assume(book, level, answers, due);
-    let mut assumed = start.answers;
-    let mut known = [65534u16; 576];
-    let mut front = START;
-    let mut left = start.left;
-    let mut more = true;
-    while more {
-        let s = turn(
-            book,
-            level,
-            answers,
-            &mut assumed,
-            &mut known,
-            order,
-            Search { front, left, more },
-        );
-        front = s.front;
-        left = s.left;
-        more = s.more;
-    }
-    assumed
+    let at = Level {
+        book: *book,
+        number: level,
+        answers,
+    };
+    let mut search = assume(at, due);
+    while search.turn(order) {}
+    search.assumed
 }

@@ -3,7 +3,8 @@ use mathlib.Core.Path.{◌≡◌, refl, fun_ext}
 use mathlib.Core.Logic.{◌⊎◌, inl, inr, ⊎_elim}
 use mathlib.Core.Bool.{Bool, true, false, cond, So, false≢true}
 use Prim.Native.Nat.{ℕ}
-use Rattle.theory.specs.Truth.{Truth, ◌≼◌}
+use Rattle.theory.specs.Truth.{◌≼◌}
+use Rattle.theory.specs.declared.answer.Truth.{Truth}
 use Rattle.theory.specs.Answers.{Answers, ◌⊑◌, Atoms, wipe, NoneTrue}
 use Rattle.theory.proofs.Truth.{clash, ≼_refl, ≼_trans, ≼_antisym}
 
@@ -16,20 +17,17 @@ pub ⊑_trans : {A B C : Answers} → A ⊑ B → B ⊑ C → A ⊑ C
 pub ⊑_antisym : (A B : Answers) → A ⊑ B → B ⊑ A → A ≡ B
 ⊑_antisym A B p q = fun_ext (λ a. ≼_antisym (A a) (B a) (p a) (q a))
 
-pub wipe_in : (U : Atoms) (A : Answers) (a : ℕ) → So (U a) → wipe U A a ≡ Truth.false
+pub wipe_in : (U : Atoms) (A : Answers) (a : ℕ) → So (U a) → wipe U A a ≡ Truth.False
 wipe_in U A a e = rw e
 
-pub wipe_out : (U : Atoms) (A : Answers) (a : ℕ) → U a ≡ false → wipe U A a ≡ A a
-wipe_out U A a e = rw e
-
 -- the one comparison of two wiped answers, at one atom
-pub wipe-≼ : (U W : Atoms) (A B : Answers) (a : ℕ) → (So (U a) → So (W a) ⊎ (B a ≡ Truth.false)) →
-    (So (W a) → So (U a) ⊎ (A a ≡ Truth.true → ⊥)) → A a ≼ B a → wipe U A a ≼ wipe W B a
+pub wipe-≼ : (U W : Atoms) (A B : Answers) (a : ℕ) → (So (U a) → So (W a) ⊎ (B a ≡ Truth.False)) →
+    (So (W a) → So (U a) ⊎ (A a ≡ Truth.True → ⊥)) → A a ≼ B a → wipe U A a ≼ wipe W B a
 wipe-≼ U W A B a = cond-≼ (U a) (W a) (A a) (B a)
   where
-    cond-≼ : (b c : Bool) (x y : Truth) → (So b → So c ⊎ (y ≡ Truth.false)) → (So c → So b ⊎ (x ≡ Truth.true → ⊥)) →
-        x ≼ y → cond b Truth.false x ≼ cond c Truth.false y
-    cond-≼ true true x y f g p = ≼_refl Truth.false
+    cond-≼ : (b c : Bool) (x y : Truth) → (So b → So c ⊎ (y ≡ Truth.False)) → (So c → So b ⊎ (x ≡ Truth.True → ⊥)) →
+        x ≼ y → cond b Truth.False x ≼ cond c Truth.False y
+    cond-≼ true true x y f g p = ≼_refl Truth.False
     cond-≼ true false x y f g p =
         (λ e. absurd (clash e refl), λ _. ⊎_elim (λ e. absurd (false≢true e)) (λ e. e) (f refl))
     cond-≼ false true x y f g p =

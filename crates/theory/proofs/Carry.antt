@@ -8,8 +8,10 @@ use native.Mathlib.Omega.{arith}
 use native.Mathlib.Decide.{dec_lt}
 use lib.Dec.{eqb, ltb}
 use borrow.Author.Tests.{ltb-true, lt-ltb, eqb-true, eq-eqb}
-use Rattle.laws.proofs.Tests.{by-test, both, left, right}
-use Rattle.theory.specs.Truth.{Truth, ◌≼◌}
+use Rattle.std.proofs.lemmas.Bool.{and_from, and_parts}
+use Rattle.laws.proofs.Tests.{by-test}
+use Rattle.theory.specs.Truth.{◌≼◌}
+use Rattle.theory.specs.declared.answer.Truth.{Truth}
 use Rattle.theory.specs.Answers.{Answers, ◌⊑◌, Atoms, wipe}
 use Rattle.theory.specs.Rules.{Derived, Refuted}
 use Rattle.theory.specs.Steps.{Blocks, wiped, never, Unfounded, Unsupported, Run, start, next, Final}
@@ -50,19 +52,19 @@ module _ {B : Book} (L : Layers B) where
 
   low_in : {n : ℕ} (U : Atoms) (a : ℕ) → So (U a) → L.level a < n → So (low_part n U a)
   unfolding low_part
-  low_in U a e l = both e (lt-ltb (L.level a) _ l)
+  low_in U a e l = and_from _ _ e (lt-ltb (L.level a) _ l)
 
   low_of : (n : ℕ) (U : Atoms) (a : ℕ) → So (low_part n U a) → So (U a) × (L.level a < n)
   unfolding low_part
-  low_of n U a e = (left (U a) _ e, ltb-true (L.level a) n (right (U a) _ e))
+  low_of n U a e = ((and_parts (U a) _ e).0, ltb-true (L.level a) n (and_parts (U a) _ e).1)
 
   at_in : {n : ℕ} (U : Atoms) (a : ℕ) → So (U a) → L.level a ≡ n → So (at_part n U a)
   unfolding at_part
-  at_in U a e l = both e (eq-eqb (L.level a) _ l)
+  at_in U a e l = and_from _ _ e (eq-eqb (L.level a) _ l)
 
   at_of : (n : ℕ) (U : Atoms) (a : ℕ) → So (at_part n U a) → So (U a) × (L.level a ≡ n)
   unfolding at_part
-  at_of n U a e = (left (U a) _ e, eqb-true (L.level a) n (right (U a) _ e))
+  at_of n U a e = ((and_parts (U a) _ e).0, eqb-true (L.level a) n (and_parts (U a) _ e).1)
 
   -- `M` below level `n`, and `K` from there on
   graft : ℕ → Answers → Answers → Answers
@@ -112,7 +114,7 @@ module _ {B : Book} {L : Layers B} {n : ℕ} {J K : Answers} (C : Carries B L n 
   module _ (fin : Final B.rules (under B L n) J) where
     -- of a set that is unfounded in the levels up to `n`, what lies below `n` was false already
     low_false : {U : Atoms} → Unfounded B.rules (under B L (suc n)) U K → (a : ℕ) → So (U a) → L.level a < n →
-        K a ≡ Truth.false
+        K a ≡ Truth.False
     low_false {U} u a m l =
         (C.kept a).1
         (fin.has_unfounded a (
@@ -128,9 +130,9 @@ module _ {B : Book} {L : Layers B} {n : ℕ} {J K : Answers} (C : Carries B L n 
         ))
 
     -- what level `n` has to show is asked for in the three arguments
-    pub final_up : ((a : ℕ) → Derived B.rules (at_level B L n) K a → K a ≡ Truth.true) →
-        ((a : ℕ) → B.Complete a → L.level a ≡ n → Refuted B.rules (at_level B L n) K a → K a ≡ Truth.false) →
-        ((a : ℕ) → L.level a ≡ n → Unsupported B.rules (under B L (suc n)) K a → K a ≡ Truth.false) →
+    pub final_up : ((a : ℕ) → Derived B.rules (at_level B L n) K a → K a ≡ Truth.True) →
+        ((a : ℕ) → B.Complete a → L.level a ≡ n → Refuted B.rules (at_level B L n) K a → K a ≡ Truth.False) →
+        ((a : ℕ) → L.level a ≡ n → Unsupported B.rules (under B L (suc n)) K a → K a ≡ Truth.False) →
         Final B.rules (under B L (suc n)) K
     final_up ft ff fu = record {
       has_true = λ a (r, (has, l), e, b).

@@ -4,7 +4,7 @@ use mathlib.Core.Path.{◌≡◌}
 use mathlib.Core.Logic.{◌⊎◌, inl, inr, ⊎_elim}
 use mathlib.Core.Bool.{So}
 use Prim.Native.Nat.{ℕ}
-use Rattle.theory.specs.Truth.{Truth}
+use Rattle.theory.specs.declared.answer.Truth.{Truth}
 use Rattle.theory.specs.Answers.{Answers, ◌⊑◌, Atoms, NoneTrue}
 use Rattle.theory.specs.Rules.{Rules, Part, Derived, Refuted}
 use Rattle.theory.specs.Steps.{Unfounded, Step, Run, start, next, Final, Ended, Fresh}
@@ -19,7 +19,7 @@ module _ (R : Rules) (P : Part R) where
 
   -- why `a` is false in `A`, judged at `A` itself
   abbrev WhyFalse : Answers → Answers → ℕ → Type 0
-  WhyFalse A₀ A a = (A₀ a ≡ Truth.false) ⊎ Refuted R P A a ⊎ WasUnfounded A a
+  WhyFalse A₀ A a = (A₀ a ≡ Truth.False) ⊎ Refuted R P A a ⊎ WasUnfounded A a
 
   -- no atom is both: a body would be
   derived_refuted : (A : Answers) (a : ℕ) → Derived R P A a → Refuted R P A a → ⊥
@@ -27,7 +27,7 @@ module _ (R : Rules) (P : Part R) where
 
 module _ {R : Rules} {P : Part R} where
   -- why `a` is true in `A`, judged at `A` itself
-  true_from : {A₀ A : Answers} → Run R P A₀ A → (a : ℕ) → A a ≡ Truth.true → (A₀ a ≡ Truth.true) ⊎ Derived R P A a
+  true_from : {A₀ A : Answers} → Run R P A₀ A → (a : ℕ) → A a ≡ Truth.True → (A₀ a ≡ Truth.True) ⊎ Derived R P A a
   true_from start a e = inl e
   true_from (next {B = A} {C = A'} r s) a e =
       let up : Derived R P A a → Derived R P A' a = derived_mono R P s.keeps a in
@@ -41,7 +41,7 @@ module _ {R : Rules} {P : Part R} where
       let p' = ⊑_trans p s.keeps in
       inr (inr (U, C, u, p', free_run u p' f (next start s) (⊑_refl A'), m))
 
-  false_from : {A₀ A : Answers} → Run R P A₀ A → (a : ℕ) → A a ≡ Truth.false → WhyFalse R P A₀ A a
+  false_from : {A₀ A : Answers} → Run R P A₀ A → (a : ℕ) → A a ≡ Truth.False → WhyFalse R P A₀ A a
   false_from start a e = inl e
   false_from {A₀} (next {B = A} r s) a e =
       why_step A₀ s a
@@ -50,12 +50,12 @@ module _ {R : Rules} {P : Part R} where
 
   module _ {A₀ A : Answers} (fresh : Fresh R P A₀) (run : Run R P A₀ A) where
     -- no step overturns an answer
-    false_stays : (a : ℕ) → A a ≡ Truth.false → Derived R P A a → ⊥
+    false_stays : (a : ℕ) → A a ≡ Truth.False → Derived R P A a → ⊥
     false_stays a e d =
         ⊎_elim (λ z. fresh.heads d.0 d.1 (rw d.2 z))
         (⊎_elim (derived_refuted R P A a d) (λ (U, C, u, p, f, m). key u p (⊑_refl A) f a m d)) (false_from run a e)
 
-    true_stays : (a : ℕ) → P.Complete a → A a ≡ Truth.true → Refuted R P A a → ⊥
+    true_stays : (a : ℕ) → P.Complete a → A a ≡ Truth.True → Refuted R P A a → ⊥
     true_stays a c e f = ⊎_elim (fresh.completes a c) (λ d. derived_refuted R P A a d f) (true_from run a e)
 
     -- an engine that looks at undefined atoms only, and stops when none can be decided, has reached the end

@@ -7,8 +7,10 @@ use native.Mathlib.Omega.{arith}
 use native.Mathlib.Decide.{dec_lt}
 use lib.Dec.{eqb}
 use borrow.Author.Tests.{eqb-true, eq-eqb}
-use Rattle.laws.proofs.Tests.{by-test, test-clash, both, left, right}
-use Rattle.theory.specs.Truth.{Truth, ◌≼◌}
+use Rattle.std.proofs.lemmas.Bool.{and_from, and_parts, both_ways}
+use Rattle.laws.proofs.Tests.{by-test}
+use Rattle.theory.specs.Truth.{◌≼◌}
+use Rattle.theory.specs.declared.answer.Truth.{Truth}
 use Rattle.theory.specs.Answers.{Answers, ◌⊑◌, Atoms, wipe, NoneTrue}
 use Rattle.theory.specs.Rules.{Derived}
 use Rattle.theory.specs.Steps.{Never, never, Unfounded, Step, Run, start, next, Final, Ended, Fresh}
@@ -53,12 +55,12 @@ module _ {B : Book} (L : Layers B) where
   }
 
   -- the rest are the undefined atoms of the level, so none is true
-  rest_of : (n : ℕ) (K : Answers) (a : ℕ) → So (rest B L n K a) → (L.level a ≡ n) × (K a ≡ Truth.undefined)
+  rest_of : (n : ℕ) (K : Answers) (a : ℕ) → So (rest B L n K a) → (L.level a ≡ n) × (K a ≡ Truth.Undefined)
   rest_of n K a e =
-      (eqb-true (L.level a) n (left (eqb (L.level a) n) _ e), undefined_of (K a) (right (eqb (L.level a) n) _ e))
+      let (l, u) = and_parts (eqb (L.level a) n) _ e in (eqb-true (L.level a) n l, undefined_of (K a) u)
 
-  rest_in : (n : ℕ) (K : Answers) (a : ℕ) → L.level a ≡ n → K a ≡ Truth.undefined → So (rest B L n K a)
-  rest_in n K a l z = both (eq-eqb (L.level a) n l) (rw z)
+  rest_in : (n : ℕ) (K : Answers) (a : ℕ) → L.level a ≡ n → K a ≡ Truth.Undefined → So (rest B L n K a)
+  rest_in n K a l z = and_from _ _ (eq-eqb (L.level a) n l) (rw z)
 
   rest_none_true : (n : ℕ) (K : Answers) → NoneTrue (rest B L n K) K
   rest_none_true n K a e = undefined_true (rest_of n K a e).1
@@ -73,20 +75,20 @@ module _ {B : Book} (L : Layers B) where
     same = λ a ne. by-test (rest B L n K a) (λ e. absurd (ne (rest_of n K a e).0)) (λ e. rw e (C.same a ne));
   }
 
-  close_decided : (n : ℕ) (K : Answers) (a : ℕ) → L.level a ≡ n → close B L n K a ≡ Truth.undefined → ⊥
+  close_decided : (n : ℕ) (K : Answers) (a : ℕ) → L.level a ≡ n → close B L n K a ≡ Truth.Undefined → ⊥
   close_decided n K a l =
       by-test (rest B L n K a) (λ e. rw e (λ z. undefined_false z refl))
-      (λ e. rw e (λ z. test-clash (rest_in n K a l z) e))
+      (λ e. rw e (λ z. absurd (both_ways _ e (rest_in n K a l z))))
 
   -- each certain atom below level `n` is decided
   abbrev pub Decided : ℕ → Answers → Type 0
-  Decided n A = (a : ℕ) → B.rules.Certain a → L.level a < n → A a ≡ Truth.undefined → ⊥
+  Decided n A = (a : ℕ) → B.rules.Certain a → L.level a < n → A a ≡ Truth.Undefined → ⊥
 
   -- CERTAIN. To close a certain level is one step (c).
   module _ {n : ℕ} {K : Answers} (sure : (a : ℕ) → L.level a ≡ n → B.rules.Certain a) where
     -- what is true once the level is closed was true before
     close_true : (r : B.rules.Rule) → B.Has r → L.level (B.rules.head r) ≡ n → (h : B.rules.Hypothesis) →
-        B.rules.Uses r h → B.rules.truth (close B L n K) h ≡ Truth.true → B.rules.truth K h ≡ Truth.true
+        B.rules.Uses r h → B.rules.truth (close B L n K) h ≡ Truth.True → B.rules.truth K h ≡ Truth.True
     close_true r has l h uses =
         L.positive r has (sure (B.rules.head r) l) h uses (rest B L n K) K
         (λ a e. let (l', z) = rest_of n K a e in (l' ∙ sym l, z))
@@ -102,18 +104,18 @@ module _ {B : Book} (L : Layers B) where
       steady M p a c l e =
           known-≼ (K a) (M a) (p a)
           (λ z. by_cases (dec_lt (L.level a) n) (λ l'. dec a c l' z)
-          (λ g. test-clash (rest_in n K a (omega (arith, l, g)) z) e))
+          (λ g. absurd (both_ways _ e (rest_in n K a (omega (arith, l, g)) z))))
 
       -- a hypothesis that is not true now never comes true with the rest false: all else that it reads is steady
       close_never : (r : B.rules.Rule) → B.Has r → L.level (B.rules.head r) ≡ n → (h : B.rules.Hypothesis) →
-          B.rules.Uses r h → (B.rules.truth K h ≡ Truth.true → ⊥) → Never B.rules (rest B L n K) K h
+          B.rules.Uses r h → (B.rules.truth K h ≡ Truth.True → ⊥) → Never B.rules (rest B L n K) K h
       close_never r has l h uses not-true M p t =
           let U : Atoms = rest B L n K in
           not-true
           (close_true r has l h uses
           ((B.rules.truth_local (wipe U M) (wipe U K) h
           (λ a m. let c = L.certain_only r has (sure (B.rules.head r) l) h uses a m in
-          by-test (U a) (λ e. rw e (≼_refl Truth.false))
+          by-test (U a) (λ e. rw e (≼_refl Truth.False))
           (λ e. rw e (steady M p a c (omega (arith, L.lower r has h uses a m, l)) e)))
           ).0 t))
 
@@ -164,7 +166,7 @@ module _ {B : Book} {L : Layers B} {G : Answers} where
     -- one level more, once its end is shown to be the end of all levels up to it
     merge_up : {K : Answers} → Carries B L n J K → Run B.rules (under B L (suc n)) J K →
         Final B.rules (under B L (suc n)) K →
-        ((a : ℕ) → B.rules.Certain a → L.level a ≡ n → K a ≡ Truth.undefined → ⊥) → Merged B L G (suc n) K
+        ((a : ℕ) → B.rules.Certain a → L.level a ≡ n → K a ≡ Truth.Undefined → ⊥) → Merged B L G (suc n) K
     merge_up C r f dec = record {
       run = run_append (run_embeds (under_embeds L n) m.run) r;
       final = f;

@@ -3,7 +3,7 @@
 use mathlib.Core.Path.{◌≡◌}
 use mathlib.Core.Logic.{inr}
 use Prim.Native.Nat.{ℕ}
-use Rattle.theory.specs.Truth.{Truth}
+use Rattle.theory.specs.declared.answer.Truth.{Truth}
 use Rattle.theory.specs.Answers.{Answers, ◌⊑◌}
 use Rattle.theory.specs.Steps.{Run, Final, Fresh}
 use Rattle.theory.specs.Levels.{Book, Layers, whole, under, Under, Model}
@@ -51,5 +51,5 @@ one_model {G = G} {J} {J'} g m m' = ⊑_antisym J J' (grows g g (⊑_refl G) m m
 
 -- a certain atom is never undefined
 pub two_valued : {B : Book} {L : Layers B} {G J : Answers} → Fresh B.rules (whole B) G → Model B L G J →
-    (a : ℕ) → B.rules.Certain a → J a ≡ Truth.undefined → ⊥
+    (a : ℕ) → B.rules.Certain a → J a ≡ Truth.Undefined → ⊥
 two_valued g m a c = (merged g m.levels).decided a c (m.covers.closeds a (inr c))

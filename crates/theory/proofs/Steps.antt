@@ -3,7 +3,8 @@ use mathlib.Core.Path.{◌≡◌}
 use mathlib.Core.Logic.{⊎_elim}
 use mathlib.Core.Bool.{So}
 use Prim.Native.Nat.{ℕ}
-use Rattle.theory.specs.Truth.{Truth, ◌≼◌}
+use Rattle.theory.specs.Truth.{◌≼◌}
+use Rattle.theory.specs.declared.answer.Truth.{Truth}
 use Rattle.theory.specs.Answers.{Answers, ◌⊑◌, Atoms, NoneTrue}
 use Rattle.theory.specs.Rules.{Rules, Part, BodyTrue, BodyFalse, Derived, Refuted}
 use Rattle.theory.specs.Steps.{Never, Blocks, wiped, never, Unfounded, Unsupported, Step, Run, start, next, Final}
@@ -78,10 +79,10 @@ module _ {R : Rules} {P : Part R} where
   }
 
   -- a run from `B₀`, where no closed atom is true, to a final `B`
-  module _ {B₀ B : Answers} (none_true : (a : ℕ) → P.Closed a → B₀ a ≡ Truth.true → ⊥) (run : Run R P B₀ B)
+  module _ {B₀ B : Answers} (none_true : (a : ℕ) → P.Closed a → B₀ a ≡ Truth.True → ⊥) (run : Run R P B₀ B)
       (final : Final R P B) where
     -- what was unfounded on the way is still so at the end, and false there
-    unsupported_final : {A : Answers} → A ⊑ B → (a : ℕ) → Unsupported R P A a → B a ≡ Truth.false
+    unsupported_final : {A : Answers} → A ⊑ B → (a : ℕ) → Unsupported R P A a → B a ≡ Truth.False
     unsupported_final p a (U, u, m) =
         let f = free_run u p (λ b i. none_true b (u.closed b i)) run (⊑_refl B) in
         final.has_unfounded a (U, unfounded_mono p f u, m)

@@ -1,7 +1,8 @@
 -- Answers: one for each atom. Sets of atoms, and answers at which such a set counts as false. Assumes nothing.
 use Rattle.std.specs.Prelude.{◌≡◌, Bool, cond, ℕ}
 use Rattle.std.proofs.Math.Bool.{So}
-use Rattle.theory.specs.Truth.{Truth, ◌≼◌}
+use Rattle.theory.specs.Truth.{◌≼◌}
+use Rattle.theory.specs.declared.answer.Truth.{Truth}
 
 abbrev pub Answers : Type 0
 Answers = ℕ → Truth
@@ -17,8 +18,8 @@ Atoms = ℕ → Bool
 
 -- `A` with the atoms of `U` counted as false
 abbrev pub wipe : Atoms → Answers → Answers
-wipe U A a = cond (U a) Truth.false (A a)
+wipe U A a = cond (U a) Truth.False (A a)
 
 -- no member of `U` is true
 abbrev pub NoneTrue : Atoms → Answers → Type 0
-NoneTrue U A = (a : ℕ) → So (U a) → A a ≡ Truth.true → ⊥
+NoneTrue U A = (a : ℕ) → So (U a) → A a ≡ Truth.True → ⊥

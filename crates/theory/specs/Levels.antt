@@ -2,7 +2,8 @@
 -- nothing.
 use Rattle.std.specs.Prelude.{◌≡◌, ◌⊎◌, ◌&&◌, ℕ, suc, ◌<◌, ◌≤◌, eqb}
 use Rattle.std.proofs.Math.Bool.{So}
-use Rattle.theory.specs.Truth.{Truth, is_undefined}
+use Rattle.theory.specs.Truth.{is_undefined}
+use Rattle.theory.specs.declared.answer.Truth.{Truth}
 use Rattle.theory.specs.Answers.{Answers, Atoms, wipe}
 use Rattle.theory.specs.Rules.{Rules, Part, BodyTrue}
 use Rattle.theory.specs.Steps.{Run, Ended}
@@ -15,7 +16,7 @@ pub record Book : Type 1 where
   pub complete_uncertain : (a : ℕ) → Complete a → rules.Certain a → ⊥
   -- bodies are finite
   pub body_or : (A : Answers) (r : rules.Rule) → Has r →
-      BodyTrue rules A r ⊎ ((h : rules.Hypothesis) × rules.Uses r h × (rules.truth A h ≡ Truth.true → ⊥))
+      BodyTrue rules A r ⊎ ((h : rules.Hypothesis) × rules.Uses r h × (rules.truth A h ≡ Truth.True → ⊥))
 
 -- a level for each atom that passes refusals 9 to 11
 pub record Layers (B : Book) : Type 0 where
@@ -26,8 +27,8 @@ pub record Layers (B : Book) : Type 0 where
   -- 10: to make undefined atoms of the head's own level false makes no hypothesis true
   pub positive : (r : B.rules.Rule) → B.Has r → B.rules.Certain (B.rules.head r) → (h : B.rules.Hypothesis) →
       B.rules.Uses r h → (U : Atoms) (A : Answers) →
-      ((a : ℕ) → So (U a) → (level a ≡ level (B.rules.head r)) × (A a ≡ Truth.undefined)) →
-      B.rules.truth (wipe U A) h ≡ Truth.true → B.rules.truth A h ≡ Truth.true
+      ((a : ℕ) → So (U a) → (level a ≡ level (B.rules.head r)) × (A a ≡ Truth.Undefined)) →
+      B.rules.truth (wipe U A) h ≡ Truth.True → B.rules.truth A h ≡ Truth.True
   -- 11
   pub certain_only : (r : B.rules.Rule) → B.Has r → B.rules.Certain (B.rules.head r) →
       (h : B.rules.Hypothesis) → B.rules.Uses r h → (a : ℕ) → B.rules.Reads h a → B.rules.Certain a

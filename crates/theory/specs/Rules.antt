@@ -1,7 +1,8 @@
 -- Rules without their content: a hypothesis has a truth at answers and reads some atoms, and knowing more of those
 -- never takes its truth back. A part of the rules is what is worked on at one time. Assumes nothing.
 use Rattle.std.specs.Prelude.{◌≡◌, ℕ}
-use Rattle.theory.specs.Truth.{Truth, ◌≼◌}
+use Rattle.theory.specs.Truth.{◌≼◌}
+use Rattle.theory.specs.declared.answer.Truth.{Truth}
 use Rattle.theory.specs.Answers.{Answers}
 
 pub record Rules : Type 1 where
@@ -22,10 +23,10 @@ pub record Part (R : Rules) : Type 1 where
 
 module _ (R : Rules) where
   abbrev pub BodyTrue : Answers → R.Rule → Type 0
-  BodyTrue A r = (h : R.Hypothesis) → R.Uses r h → R.truth A h ≡ Truth.true
+  BodyTrue A r = (h : R.Hypothesis) → R.Uses r h → R.truth A h ≡ Truth.True
 
   abbrev pub BodyFalse : Answers → R.Rule → Type 0
-  BodyFalse A r = (h : R.Hypothesis) × R.Uses r h × (R.truth A h ≡ Truth.false)
+  BodyFalse A r = (h : R.Hypothesis) × R.Uses r h × (R.truth A h ≡ Truth.False)
 
   -- a true body of the part concludes `a`
   abbrev pub Derived : Part R → Answers → ℕ → Type 0

@@ -1,19 +1,19 @@
 -- Steps (a), (b), (c) over a part of the rules, runs of steps, and their end. Assumes nothing.
 use Rattle.std.specs.Prelude.{◌≡◌, ◌⊎◌, ℕ}
 use Rattle.std.proofs.Math.Bool.{So}
-use Rattle.theory.specs.Truth.{Truth}
+use Rattle.theory.specs.declared.answer.Truth.{Truth}
 use Rattle.theory.specs.Answers.{Answers, ◌⊑◌, Atoms, wipe, NoneTrue}
 use Rattle.theory.specs.Rules.{Rules, Part, Derived, Refuted}
 
 module _ (R : Rules) where
   -- `h` cannot come true as long as the members of `U` are false
   abbrev pub Never : Atoms → Answers → R.Hypothesis → Type 0
-  Never U A h = (M : Answers) → A ⊑ M → R.truth (wipe U M) h ≡ Truth.true → ⊥
+  Never U A h = (M : Answers) → A ⊑ M → R.truth (wipe U M) h ≡ Truth.True → ⊥
 
   -- `h` keeps rule `r` from founding a member of `U`: it is false once `U` counts as false. For certain heads it is
   -- enough that it never comes true: max of no elements is undefined, and a certain atom over it false all the same.
   pub data Blocks (U : Atoms) (A : Answers) (r : R.Rule) (h : R.Hypothesis) : Type 0 where
-    wiped : R.truth (wipe U A) h ≡ Truth.false → Blocks U A r h
+    wiped : R.truth (wipe U A) h ≡ Truth.False → Blocks U A r h
     never : R.Certain (R.head r) → Never U A h → Blocks U A r h
 
 module _ (R : Rules) (P : Part R) where
@@ -29,9 +29,9 @@ module _ (R : Rules) (P : Part R) where
   -- `B` comes from `A` by any number of (a), (b), (c) at once, each judged at `A`
   pub record Step (A B : Answers) : Type 0 where
     pub keeps : A ⊑ B
-    pub new_true : (a : ℕ) → B a ≡ Truth.true → (A a ≡ Truth.true) ⊎ Derived R P A a
-    pub new_false : (a : ℕ) → B a ≡ Truth.false →
-        (A a ≡ Truth.false) ⊎ (P.Complete a × Refuted R P A a) ⊎ Unsupported A a
+    pub new_true : (a : ℕ) → B a ≡ Truth.True → (A a ≡ Truth.True) ⊎ Derived R P A a
+    pub new_false : (a : ℕ) → B a ≡ Truth.False →
+        (A a ≡ Truth.False) ⊎ (P.Complete a × Refuted R P A a) ⊎ Unsupported A a
 
   pub data Run (A : Answers) : Answers → Type 0 where
     start : Run A A
@@ -39,18 +39,18 @@ module _ (R : Rules) (P : Part R) where
 
   -- what a step could add is there already
   pub record Final (A : Answers) : Type 0 where
-    pub has_true : (a : ℕ) → Derived R P A a → A a ≡ Truth.true
-    pub has_false : (a : ℕ) → P.Complete a → Refuted R P A a → A a ≡ Truth.false
-    pub has_unfounded : (a : ℕ) → Unsupported A a → A a ≡ Truth.false
+    pub has_true : (a : ℕ) → Derived R P A a → A a ≡ Truth.True
+    pub has_false : (a : ℕ) → P.Complete a → Refuted R P A a → A a ≡ Truth.False
+    pub has_unfounded : (a : ℕ) → Unsupported A a → A a ≡ Truth.False
 
   -- no step can decide an undefined atom
   pub record Ended (A : Answers) : Type 0 where
-    pub no_true : (a : ℕ) → A a ≡ Truth.undefined → Derived R P A a → ⊥
-    pub no_false : (a : ℕ) → A a ≡ Truth.undefined → P.Complete a → Refuted R P A a → ⊥
-    pub no_unfounded : (a : ℕ) → A a ≡ Truth.undefined → Unsupported A a → ⊥
+    pub no_true : (a : ℕ) → A a ≡ Truth.Undefined → Derived R P A a → ⊥
+    pub no_false : (a : ℕ) → A a ≡ Truth.Undefined → P.Complete a → Refuted R P A a → ⊥
+    pub no_unfounded : (a : ℕ) → A a ≡ Truth.Undefined → Unsupported A a → ⊥
 
   -- the heads, the complete and the closed atoms of the part are not yet decided the other way
   pub record Fresh (A : Answers) : Type 0 where
-    pub heads : (r : R.Rule) → P.Has r → A (R.head r) ≡ Truth.false → ⊥
-    pub completes : (a : ℕ) → P.Complete a → A a ≡ Truth.true → ⊥
-    pub closeds : (a : ℕ) → P.Closed a → A a ≡ Truth.true → ⊥
+    pub heads : (r : R.Rule) → P.Has r → A (R.head r) ≡ Truth.False → ⊥
+    pub completes : (a : ℕ) → P.Complete a → A a ≡ Truth.True → ⊥
+    pub closeds : (a : ℕ) → P.Closed a → A a ≡ Truth.True → ⊥

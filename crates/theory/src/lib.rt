@@ -1,2 +1,4 @@
-// No code: the crate holds definitions and laws alone.
+// Steps, runs and levels of abstract rules: one model.
 #![tactic(auto)]
+
+pub mod answer;

@@ -1,8 +1,15 @@
 -- How the examples are written: predicates, atoms and rules as read; answers as bytes; damage by its place.
 -- Assumes nothing.
-use Rattle.std.specs.Prelude.{ℕ, suc, ◌+◌, ◌-◌, ◌*◌, List, [], ◌∷◌, ◌++◌, map, ℤ, pos, neg_ℤ, drop, get_or, length, replicate, take}
-use Rattle.meaning.specs.Format.{Atom, Predicate, sizes, start}
-use Rattle.meaning.specs.Reading.{Aggregate, Element, Hypothesis, Kind, Literal, Relation, Rule}
+use Rattle.std.specs.Prelude.{ℕ, suc, ◌+◌, ◌-◌, ◌*◌, List, [], ◌∷◌, ◌++◌, map, ℤ, pos, neg_ℤ, drop, get_or}
+use Rattle.std.specs.Prelude.{length, replicate, take}
+use Rattle.meaning.specs.Format.{sizes, start}
+use Rattle.meaning.specs.declared.records.Atom.{Atom}
+use Rattle.meaning.specs.declared.records.Predicate.{Predicate}
+use Rattle.meaning.specs.Reading.{Element, Hypothesis, Rule}
+use Rattle.meaning.specs.declared.codes.Literal.{Literal}
+use Rattle.meaning.specs.declared.codes.Aggregate.{Aggregate}
+use Rattle.meaning.specs.declared.codes.Kind.{Kind}
+use Rattle.meaning.specs.declared.codes.Relation.{Relation}
 use Rattle.meaning.specs.Outcome.{Call}
 use Rattle.meaning.specs.Writing.{book_of, kind_code, lay, u32, u8}
 
@@ -43,10 +50,10 @@ four book = book 0 1 2 3
 
 -- hypotheses that are literals
 abbrev pub is : ℕ → Hypothesis
-is a = Hypothesis.literal (Literal.plain a)
+is a = Hypothesis.literal (Literal.Plain a)
 
 abbrev pub not : ℕ → Hypothesis
-not a = Hypothesis.literal (Literal.negated a)
+not a = Hypothesis.literal (Literal.Negated a)
 
 infix 70 ◌for◌
 -- an element: a weight for a literal
@@ -67,16 +74,16 @@ abbrev pub weightless : Literal → Element
 weightless literal = pos 0 for literal
 
 abbrev pub count : List Literal → Relation → ℕ → Hypothesis
-count literals relation bound = compare Aggregate.count (map weightless literals) relation (pos bound)
+count literals relation bound = compare Aggregate.Count (map weightless literals) relation (pos bound)
 
 abbrev pub sum : List Element → Relation → ℤ → Hypothesis
-sum = compare Aggregate.sum
+sum = compare Aggregate.Sum
 
 abbrev pub min : List Element → Relation → ℤ → Hypothesis
-min = compare Aggregate.min
+min = compare Aggregate.Min
 
 abbrev pub max : List Element → Relation → ℤ → Hypothesis
-max = compare Aggregate.max
+max = compare Aggregate.Max
 
 -- rules: with no hypotheses, with one, with several
 abbrev pub fact : ℕ → Rule

@@ -1,7 +1,13 @@
 -- Our own examples of refusals, each at a place that is not the first, and of their order. Assumes nothing.
 use Rattle.std.specs.Prelude.{ℕ, List, [], ◌∷◌, ◌++◌, map, pos, take}
-use Rattle.meaning.specs.Reading.{Aggregate, Hypothesis, Kind, Literal, Relation, certain, closed, complete, eq}
-use Rattle.meaning.specs.Reading.{ge, gt, le, lt, ne, negated, «open», plain}
+use Rattle.meaning.specs.Reading.{Hypothesis}
+use Rattle.meaning.specs.declared.codes.Literal.{Literal}
+use Rattle.meaning.specs.declared.codes.Aggregate.{Aggregate}
+use Rattle.meaning.specs.declared.codes.Kind.{Kind}
+use Rattle.meaning.specs.declared.codes.Relation.{Relation}
+use Rattle.meaning.specs.declared.codes.Literal.TheVariants.{Negated, Plain}
+use Rattle.meaning.specs.declared.codes.Kind.TheVariants.{Certain, Closed, Complete, Open}
+use Rattle.meaning.specs.declared.codes.Relation.TheVariants.{Eq, Ge, Gt, Le, Lt, Ne}
 use Rattle.meaning.specs.Examples.Notation.{Example, ◌for◌, ◌⇐◌, accepted, atom, book, compare, count, fact, four}
 use Rattle.meaning.specs.Examples.Notation.{given, is, max, nines, not, predicate, refused, rule, set_byte}
 use Rattle.meaning.specs.Examples.Notation.{set_count, set_offset, three, true, two, undefined}
@@ -11,14 +17,14 @@ use Rattle.meaning.specs.Examples.Marked.{empty, listing}
 abbrev pub whole : List ℕ
 whole =
     four λ q r m n.
-    book (predicate «open» 0 ∷ predicate complete 0 ∷ []) (atom 0 ∷ atom 0 ∷ atom 1 ∷ atom 1 ∷ [])
-    (m ⇐ max (pos 5 for plain q ∷ pos 3 for plain r ∷ []) ne (pos 3)
-    ∷ rule n (count (plain q ∷ negated r ∷ []) ge 1 ∷ is m ∷ [])
+    book (predicate Open 0 ∷ predicate Complete 0 ∷ []) (atom 0 ∷ atom 0 ∷ atom 1 ∷ atom 1 ∷ [])
+    (m ⇐ max (pos 5 for Plain q ∷ pos 3 for Plain r ∷ []) Ne (pos 3)
+    ∷ rule n (count (Plain q ∷ Negated r ∷ []) Ge 1 ∷ is m ∷ [])
     ∷ [])
 
 -- an open atom that a rule concludes, given this byte
 abbrev pub given_concluded : ℕ → List ℕ
-given_concluded byte = two λ a b. book (predicate «open» 0 ∷ []) (atom 0 ∷ given 0 byte ∷ []) (b ⇐ is a ∷ [])
+given_concluded byte = two λ a b. book (predicate Open 0 ∷ []) (atom 0 ∷ given 0 byte ∷ []) (b ⇐ is a ∷ [])
 
 -- an atom that no rule concludes, of this kind, given true
 abbrev pub given_unconcluded : Kind → List ℕ
@@ -28,11 +34,11 @@ given_unconcluded kind = book (predicate kind 0 ∷ []) (atom 0 ∷ given 0 1 �
 abbrev pub upward : (ℕ → Hypothesis) → List ℕ
 upward h =
     two λ a b.
-    book (predicate complete 0 ∷ predicate complete 1 ∷ []) (atom 0 ∷ atom 1 ∷ []) (b ⇐ is a ∷ a ⇐ h b ∷ [])
+    book (predicate Complete 0 ∷ predicate Complete 1 ∷ []) (atom 0 ∷ atom 1 ∷ []) (b ⇐ is a ∷ a ⇐ h b ∷ [])
 
 -- one certain predicate: b fact, and a rule for a that uses b
 abbrev pub own_level : (ℕ → Hypothesis) → List ℕ
-own_level h = two λ a b. book (predicate certain 0 ∷ []) (atom 0 ∷ atom 0 ∷ []) (fact b ∷ a ⇐ h b ∷ [])
+own_level h = two λ a b. book (predicate Certain 0 ∷ []) (atom 0 ∷ atom 0 ∷ []) (fact b ∷ a ⇐ h b ∷ [])
 
 -- b, or not b, with weight 1 in a comparison
 abbrev pub over : Aggregate → (ℕ → Literal) → Relation → ℕ → ℕ → Hypothesis
@@ -47,7 +53,7 @@ non_positive aggregate sign relations =
 abbrev pub uncertain : (ℕ → Hypothesis) → List ℕ
 uncertain h =
     three λ q d c.
-    book (predicate «open» 0 ∷ predicate certain 1 ∷ []) (atom 0 ∷ atom 1 ∷ atom 1 ∷ []) (fact d ∷ c ⇐ h q ∷ [])
+    book (predicate Open 0 ∷ predicate Certain 1 ∷ []) (atom 0 ∷ atom 1 ∷ atom 1 ∷ []) (fact d ∷ c ⇐ h q ∷ [])
 
 -- refusals 1 and 3
 unfoldable pub bytes : List Example
@@ -114,14 +120,14 @@ records =
     -- 7: given 1 or 2 at an atom that isn't open, or that a rule concludes
     ∷ refused (set_byte 2 2 2 1 whole) 7_2_000002
     ∷ refused (set_byte 2 3 2 2 whole) 7_2_000003
-    ∷ refused (given_unconcluded certain) 7_2_000001
-    ∷ refused (given_unconcluded complete) 7_2_000001
-    ∷ refused (given_unconcluded closed) 7_2_000001
+    ∷ refused (given_unconcluded Certain) 7_2_000001
+    ∷ refused (given_unconcluded Complete) 7_2_000001
+    ∷ refused (given_unconcluded Closed) 7_2_000001
     ∷ refused (given_concluded 1) 7_2_000001
     ∷ refused (given_concluded 2) 7_2_000001
-    -- 8: a predicate shares its level with a lower-numbered one, one certain and the other uncertain
-    ∷ refused (book (predicate complete 0 ∷ predicate certain 1 ∷ predicate certain 0 ∷ []) [] []) 8_1_000002
-    ∷ refused (book (predicate certain 0 ∷ predicate certain 1 ∷ predicate «open» 1 ∷ []) [] []) 8_1_000002
+    -- 8: a predicate shares its level with a lower-numbered one, one Certain and the other uncertain
+    ∷ refused (book (predicate Complete 0 ∷ predicate Certain 1 ∷ predicate Certain 0 ∷ []) [] []) 8_1_000002
+    ∷ refused (book (predicate Certain 0 ∷ predicate Certain 1 ∷ predicate Open 1 ∷ []) [] []) 8_1_000002
     ∷ []
 
 -- refusals 9, 11 and 12
@@ -130,11 +136,11 @@ rules =
     -- 9: a rule uses a predicate of a higher level than its head's
     refused (upward is) 9_3_000001
     ∷ refused (upward not) 9_3_000001
-    ∷ refused (upward λ b. count (plain b ∷ []) ge 1) 9_3_000001
-    -- 11: the head is certain and uses an uncertain predicate
+    ∷ refused (upward λ b. count (Plain b ∷ []) Ge 1) 9_3_000001
+    -- 11: the head is Certain and uses an uncertain predicate
     ∷ refused (uncertain is) 11_3_000001
     ∷ refused (uncertain not) 11_3_000001
-    ∷ refused (uncertain λ q. count (plain q ∷ []) ge 1) 11_3_000001
+    ∷ refused (uncertain λ q. count (Plain q ∷ []) Ge 1) 11_3_000001
     -- 12: answer room shorter than the number of atoms
     ∷ record { book = listing; room = nines 2; number = 12_0_000000; after = nines 2 }
     ∷ []
@@ -142,41 +148,41 @@ rules =
 -- 10: the head is certain and uses a predicate of its own level non-positively
 unfoldable pub positively : List Example
 positively =
-    -- Positive use: a plain atom; sign 0 in count >, ≥, max >, ≥, min <, ≤; sign 1 in count <, ≤.
+    -- Positive use: a Plain atom; sign 0 in count >, ≥, max >, ≥, min <, ≤; sign 1 in count <, ≤.
     accepted (own_level is) (true ∷ true ∷ [])
-    ∷ accepted (own_level (over Aggregate.count plain gt 0)) (true ∷ true ∷ [])
-    ∷ accepted (own_level (over Aggregate.count plain ge 1)) (true ∷ true ∷ [])
-    ∷ accepted (own_level (over Aggregate.max plain gt 0)) (true ∷ true ∷ [])
-    ∷ accepted (own_level (over Aggregate.max plain ge 1)) (true ∷ true ∷ [])
-    ∷ accepted (own_level (over Aggregate.min plain lt 2)) (true ∷ true ∷ [])
-    ∷ accepted (own_level (over Aggregate.min plain le 1)) (true ∷ true ∷ [])
-    ∷ accepted (own_level (over Aggregate.count negated lt 1)) (true ∷ true ∷ [])
-    ∷ accepted (own_level (over Aggregate.count negated le 0)) (true ∷ true ∷ [])
-    -- not a plain atom
+    ∷ accepted (own_level (over Aggregate.Count Plain Gt 0)) (true ∷ true ∷ [])
+    ∷ accepted (own_level (over Aggregate.Count Plain Ge 1)) (true ∷ true ∷ [])
+    ∷ accepted (own_level (over Aggregate.Max Plain Gt 0)) (true ∷ true ∷ [])
+    ∷ accepted (own_level (over Aggregate.Max Plain Ge 1)) (true ∷ true ∷ [])
+    ∷ accepted (own_level (over Aggregate.Min Plain Lt 2)) (true ∷ true ∷ [])
+    ∷ accepted (own_level (over Aggregate.Min Plain Le 1)) (true ∷ true ∷ [])
+    ∷ accepted (own_level (over Aggregate.Count Negated Lt 1)) (true ∷ true ∷ [])
+    ∷ accepted (own_level (over Aggregate.Count Negated Le 0)) (true ∷ true ∷ [])
+    -- not a Plain atom
     ∷ refused (own_level not) 10_3_000001
     ∷ []
 
 -- All else is non-positive, sum included. Here: source 002 also admits sign 1 in max <, max ≤, min >, min ≥.
 unfoldable pub own_counts : List Example
 own_counts =
-    non_positive Aggregate.count plain (eq ∷ ne ∷ lt ∷ le ∷ [])
-    ++ non_positive Aggregate.count negated (eq ∷ ne ∷ gt ∷ ge ∷ [])
+    non_positive Aggregate.Count Plain (Eq ∷ Ne ∷ Lt ∷ Le ∷ [])
+    ++ non_positive Aggregate.Count Negated (Eq ∷ Ne ∷ Gt ∷ Ge ∷ [])
 
 unfoldable pub own_sums : List Example
-own_sums = non_positive Aggregate.sum plain (eq ∷ ne ∷ lt ∷ le ∷ gt ∷ ge ∷ [])
+own_sums = non_positive Aggregate.Sum Plain (Eq ∷ Ne ∷ Lt ∷ Le ∷ Gt ∷ Ge ∷ [])
 
 unfoldable pub own_negated_sums : List Example
-own_negated_sums = non_positive Aggregate.sum negated (eq ∷ ne ∷ lt ∷ le ∷ gt ∷ ge ∷ [])
+own_negated_sums = non_positive Aggregate.Sum Negated (Eq ∷ Ne ∷ Lt ∷ Le ∷ Gt ∷ Ge ∷ [])
 
 unfoldable pub own_minima : List Example
 own_minima =
-    non_positive Aggregate.min plain (eq ∷ ne ∷ gt ∷ ge ∷ [])
-    ++ non_positive Aggregate.min negated (eq ∷ ne ∷ lt ∷ le ∷ gt ∷ ge ∷ [])
+    non_positive Aggregate.Min Plain (Eq ∷ Ne ∷ Gt ∷ Ge ∷ [])
+    ++ non_positive Aggregate.Min Negated (Eq ∷ Ne ∷ Lt ∷ Le ∷ Gt ∷ Ge ∷ [])
 
 unfoldable pub own_maxima : List Example
 own_maxima =
-    non_positive Aggregate.max plain (eq ∷ ne ∷ lt ∷ le ∷ [])
-    ++ non_positive Aggregate.max negated (eq ∷ ne ∷ lt ∷ le ∷ gt ∷ ge ∷ [])
+    non_positive Aggregate.Max Plain (Eq ∷ Ne ∷ Lt ∷ Le ∷ [])
+    ++ non_positive Aggregate.Max Negated (Eq ∷ Ne ∷ Lt ∷ Le ∷ Gt ∷ Ge ∷ [])
 
 -- Checks run in number order; the first that is met is given.
 unfoldable pub order : List Example
@@ -189,18 +195,18 @@ order =
     ∷ refused (set_byte 2 3 0 2 (set_byte 6 3 0 2 whole)) 4_6_000003
     ∷ refused (set_byte 6 3 1 0 (set_byte 4 2 1 4 whole)) 5_4_000002
     ∷ refused (set_byte 2 2 2 1 (set_byte 6 3 1 0 whole)) 6_5_000001
-    -- 7 before 8: a certain atom that is given, and an open predicate of the same level
-    ∷ refused (book (predicate certain 0 ∷ predicate «open» 0 ∷ []) (atom 1 ∷ given 0 1 ∷ []) []) 7_2_000001
+    -- 7 before 8: a Certain atom that is given, and an open predicate of the same level
+    ∷ refused (book (predicate Certain 0 ∷ predicate Open 0 ∷ []) (atom 1 ∷ given 0 1 ∷ []) []) 7_2_000001
     -- 8 before 9: mixed predicates, and a rule that uses a higher level
     ∷ refused
-    (book (predicate certain 0 ∷ predicate closed 1 ∷ predicate closed 0 ∷ []) (atom 0 ∷ atom 1 ∷ []) (0 ⇐ is 1 ∷ []))
+    (book (predicate Certain 0 ∷ predicate Closed 1 ∷ predicate Closed 0 ∷ []) (atom 0 ∷ atom 1 ∷ []) (0 ⇐ is 1 ∷ []))
     8_1_000002
     -- 9 before 10 and 10 before 11, though the later fault has the lower record
     ∷ refused
-    (book (predicate certain 0 ∷ predicate certain 1 ∷ []) (atom 0 ∷ atom 1 ∷ []) (0 ⇐ not 0 ∷ 0 ⇐ is 1 ∷ []))
+    (book (predicate Certain 0 ∷ predicate Certain 1 ∷ []) (atom 0 ∷ atom 1 ∷ []) (0 ⇐ not 0 ∷ 0 ⇐ is 1 ∷ []))
     9_3_000001
     ∷ refused
-    (book (predicate «open» 0 ∷ predicate certain 1 ∷ []) (atom 0 ∷ atom 1 ∷ []) (1 ⇐ is 0 ∷ 1 ⇐ not 1 ∷ []))
+    (book (predicate Open 0 ∷ predicate Certain 1 ∷ []) (atom 0 ∷ atom 1 ∷ []) (1 ⇐ is 0 ∷ 1 ⇐ not 1 ∷ []))
     10_3_000001
     -- 11 before 12
     ∷ record { book = uncertain is; room = nines 2; number = 11_3_000001; after = nines 2 }

@@ -1,9 +1,0 @@
--- A quoted text as its bytes. Assumes nothing.
-use Rattle.std.specs.Prelude.{ℕ, List, [], ◌∷◌}
-use Prim.Native.Char.{code}
-use Prim.Native.String.{String, [] as «none», ◌∷◌ as ◌then◌}
-
--- the code of each character
-abbrev pub ascii : String → List ℕ
-ascii «none» = []
-ascii (c then s) = code c ∷ ascii s

@@ -1,0 +1,58 @@
+// The records of the six tables, as document 01 has them.
+ghost use Rattle.std.specs.Prelude.{◌≡◌};
+ghost use Rattle.meaning.specs.Reading.{literal_of};
+
+use crate::codes::Literal;
+
+#[derive(Clone, Copy)]
+pub struct Predicate {
+    pub kind: u8,
+    pub level: usize,
+}
+
+#[derive(Clone, Copy)]
+pub struct Atom {
+    pub predicate: usize,
+    pub given: u8,
+}
+
+#[derive(Clone, Copy)]
+pub struct RuleRecord {
+    pub head: usize,
+    pub first: usize,
+    pub many: usize,
+}
+
+#[derive(Clone, Copy)]
+pub struct HypothesisRecord {
+    pub sort: u8,
+    pub index: usize,
+}
+
+#[derive(Clone, Copy)]
+pub struct ComparisonRecord {
+    pub aggregate: u8,
+    pub relation: u8,
+    pub bound: i64,
+    pub first: usize,
+    pub many: usize,
+}
+
+#[derive(Clone, Copy)]
+pub struct ElementRecord {
+    pub sign: u8,
+    pub atom: usize,
+    pub weight: i64,
+}
+
+impl ElementRecord {
+    // Sign 0 is the atom, any other its negation.
+    pub fn literal(self) -> Literal
+        ensures { result ≡ literal_of self.sign self.atom }
+    {
+        match self.sign {
+            0 => Literal::Plain(self.atom),
+            1.. => Literal::Negated(self.atom),
+        }
+    }
+}

@@ -1,0 +1,8 @@
+-- `Search::strike`: what is assumed stays so, and one fewer is left. Assumes nothing.
+use Rattle.steps.proofs.SearchLaws.{strike_kept}
+use Rattle.steps.proofs.search.Search.strike.Goals as goal
+
+pub invariant_of-self-clause-searched : goal.invariant_of-self-clause-searched
+invariant_of-self-clause-searched c =
+    rw c.set_answer.ensures (strike_kept c.args.self.now c.strikes.new.self c.args.r c.strikes.result
+    c.strikes.ensures.same c.requires c.strikes.ensures.is c.if-not-strikes.false c.rule-h.result c.rule-h.ensures.is)
