@@ -3,7 +3,8 @@ use mathlib.Core.Path.{◌≡◌}
 use mathlib.Core.List.{List}
 use Prim.Native.Nat.{ℕ}
 use lib.ListN.{length}
-use Rattle.meaning.specs.Format.{comparison_at, comparison_count, element_at, element_count, hypothesis_at, hypothesis_count}
+use Rattle.meaning.specs.Format.{comparison_at, comparison_count, element_at, element_count, hypothesis_at}
+use Rattle.meaning.specs.Format.{hypothesis_count}
 use Rattle.meaning.specs.Format.{predicate_at, predicate_count, rule_at, rule_count, tables}
 use Rattle.meaning.proofs.Bytes.{body_length}
 

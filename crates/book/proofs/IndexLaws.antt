@@ -10,7 +10,8 @@ use lib.ListN.{length}
 use borrow.Author.Tests.{leb-false, ltb-false}
 use Rattle.std.proofs.lemmas.Bool.{or_parts}
 use Rattle.meaning.specs.Format.{Tables, no_atom, no_comparison, no_element, no_hypothesis, no_rule, rule_count, tables}
-use Rattle.meaning.specs.Refusal.{refusal5, stray, stray_atom, stray_comparison, stray_element, stray_hypothesis, stray_rule}
+use Rattle.meaning.specs.Refusal.{refusal5, stray, stray_atom, stray_comparison, stray_element, stray_hypothesis}
+use Rattle.meaning.specs.Refusal.{stray_rule}
 use Rattle.meaning.proofs.Absent.{clear_at, none_each}
 use Rattle.meaning.proofs.Bytes.{atoms_length}
 use Rattle.book.specs.Framed.{Indexed}

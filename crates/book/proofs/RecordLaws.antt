@@ -7,8 +7,10 @@ use lib.IntN.{ℤ}
 use lib.ListN.{get_or, drop}
 use lib.Seq.{get_or-drop}
 use Rattle.meaning.specs.Format.{atom_at, atom_count, body, comparison_at, comparison_count, count_of, element_at}
-use Rattle.meaning.specs.Format.{element_count, hypothesis_at, hypothesis_count, i32_at, no_atom, no_comparison, no_element}
-use Rattle.meaning.specs.Format.{no_hypothesis, no_predicate, no_rule, predicate_at, predicate_count, rule_at, rule_count}
+use Rattle.meaning.specs.Format.{element_count, hypothesis_at, hypothesis_count, i32_at, no_atom, no_comparison}
+use Rattle.meaning.specs.Format.{no_element}
+use Rattle.meaning.specs.Format.{no_hypothesis, no_predicate, no_rule, predicate_at, predicate_count, rule_at}
+use Rattle.meaning.specs.Format.{rule_count}
 use Rattle.meaning.specs.Format.{signed, tables, u16_at, u32_at, u8_at}
 use Rattle.meaning.specs.declared.records.Predicate.{Predicate}
 use Rattle.meaning.specs.declared.records.Atom.{Atom}
@@ -44,7 +46,8 @@ module _ (b : List ℕ) (m : ℕ) where
 
 -- the record that is read where record i stands
 module _ {X : Type 0} (read : List ℕ → X) (d : X) (k : ℕ) where
-  of_record : (b : List ℕ) (i at : ℕ) → Place b k i at → i < count_of b k → read (drop at b) ≡ get_or (body read b k) i d
+  of_record : (b : List ℕ) (i at : ℕ) → Place b k i at → i < count_of b k →
+      read (drop at b) ≡ get_or (body read b k) i d
   of_record b i at p l = ap (λ (m : ℕ). read (drop m b)) p.is ∙ sym (body_at read d b k i l)
 
 module _ (b : List ℕ) (i at : ℕ) where
@@ -82,10 +85,17 @@ module _ (b : List ℕ) (i at : ℕ) where
 
   pub comparison_read : (x y u v : ℕ) (z : ℤ) → Place b 4 i at → i < comparison_count b →
       x ≡ u8_at b at → y ≡ u8_at b (at + 1) → z ≡ i32_at b (at + 2) → u ≡ u16_at b (at + 6) → v ≡ u16_at b (at + 8) →
-      let r : ComparisonRecord = record { aggregate = x; relation = y; bound = z; first = u; many = v } in r ≡ comparison_in b i
+      let r : ComparisonRecord = record { aggregate = x; relation = y; bound = z; first = u; many = v } in
+      r ≡ comparison_in b i
   unfolding tables
   comparison_read x y u v z p l e f g h j =
-      rw (e ∙ byte_first b at, f ∙ byte_from b at 1, g ∙ ap signed (long_from b at 2), h ∙ word_from b at 6, j ∙ word_from b at 8)
+      rw (
+        e ∙ byte_first b at,
+        f ∙ byte_from b at 1,
+        g ∙ ap signed (long_from b at 2),
+        h ∙ word_from b at 6,
+        j ∙ word_from b at 8,
+      )
       (of_record comparison_at no_comparison 4 b i at p l)
 
   pub element_read : (x y : ℕ) (z : ℤ) → Place b 5 i at → i < element_count b →

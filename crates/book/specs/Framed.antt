@@ -25,7 +25,8 @@ pub record Indexed (b : List ℕ) : Type 0 where
   pub rule : (r : ℕ) → r < rule_count b → (rule_in b r).first + (rule_in b r).many ≤ hypothesis_count b
   pub hypothesis : (h : ℕ) → h < hypothesis_count b →
       (hypothesis_in b h).index < cond (ltb (hypothesis_in b h).sort 2) (atom_count b) (comparison_count b)
-  pub comparison : (c : ℕ) → c < comparison_count b → (comparison_in b c).first + (comparison_in b c).many ≤ element_count b
+  pub comparison : (c : ℕ) → c < comparison_count b →
+      (comparison_in b c).first + (comparison_in b c).many ≤ element_count b
   pub element : (e : ℕ) → e < element_count b → (element_in b e).atom < atom_count b
 
 -- a book that can be worked on: both

@@ -1,4 +1,4 @@
-// The rule book: readers of its bytes.
+// The rule book: readers of its bytes, and the types of a book that was checked.
 #![tactic(auto)]
 
 // the six tables, and their limits

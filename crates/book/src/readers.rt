@@ -3,7 +3,8 @@
 ghost use Rattle.std.specs.Prelude.{◌≡◌, ◌+◌, ◌^◌, ◌<◌, ◌≤◌, nat_abs, length, get_or};
 ghost use Rattle.meaning.specs.Format.{contents, count_of, i32_at, offset_of, sizes, u16_at, u32_at};
 
-// Bytes of a record of the tables 1 to 6.
+// Bytes of a record of the tables 1 to 6. Document 01 names the form, here and with the limits: a constant table, and
+// one loop over it. So a table goes by its number, here and in crate checks: an enum would be turned into it each time.
 const SIZES: [usize; 6] = [2, 3, 6, 3, 10, 7];
 
 pub(crate) fn word(book: &[u8], i: usize) -> usize

@@ -1,5 +1,5 @@
--- What passing gives: a book with none of the refusals 1 to 3 is framed, and one without refusal 5 has every index in its
--- table; so has one with none of 1 to 7. Assumes nothing.
+-- What passing gives: a book with none of the refusals 1 to 3 is framed, and one without refusal 5 has every index in
+-- its table; so has one with none of 1 to 7. Assumes nothing.
 use mathlib.Core.Path.{◌≡◌, sym, ◌∙◌}
 use mathlib.Core.List.{List, ◌++◌}
 use mathlib.Core.Option.{Option, none}
@@ -18,13 +18,15 @@ table_refusals b = frame_refusals b ++ code_refusals (tables b) ++ record_refusa
 -- o is what a check gives
 module _ (b : List ℕ) (o : Option Refusal) where
   pub passed_framed : o ≡ first_of (frame_refusals b) → o ≡ none → Framed b
-  passed_framed p e = let (r1, (r2, (r3, _))) = none_each (frame_refusals b) (sym p ∙ e) in framed b (sym r1) (sym r2) (sym r3)
+  passed_framed p e =
+      let (r1, (r2, (r3, _))) = none_each (frame_refusals b) (sym p ∙ e) in framed b (sym r1) (sym r2) (sym r3)
 
   pub passed_indexed : o ≡ refusal5 (tables b) → o ≡ none → Indexed b
   passed_indexed p e = indexed b (sym p ∙ e)
 
   pub tables_framed : o ≡ first_of (table_refusals b) → o ≡ none → Framed b
-  tables_framed p e = let (r1, (r2, (r3, _))) = none_each (table_refusals b) (sym p ∙ e) in framed b (sym r1) (sym r2) (sym r3)
+  tables_framed p e =
+      let (r1, (r2, (r3, _))) = none_each (table_refusals b) (sym p ∙ e) in framed b (sym r1) (sym r2) (sym r3)
 
   pub tables_indexed : o ≡ first_of (table_refusals b) → o ≡ none → Indexed b
   tables_indexed p e = let (_, (_, (_, (_, (r5, _))))) = none_each (table_refusals b) (sym p ∙ e) in indexed b r5

@@ -4,14 +4,15 @@ use Rattle.std.proofs.Math.Option.{Option, none, some}
 use Rattle.meaning.specs.Refusal as meaning
 use Rattle.meaning.specs.Refusal.{refuse}
 use Rattle.checks.specs.declared.refusal.Refusal.{Refusal}
-use Rattle.checks.specs.declared.refusal.Refusal.TheVariants.{Certainty, Code, Count, Given, Height, Index, Length}
-use Rattle.checks.specs.declared.refusal.Refusal.TheVariants.{Mixture, Offset, Pair, Room, Sign}
+use Rattle.checks.specs.declared.refusal.Refusal.TheVariants.{Certainty, Code, Count, End, Given, Height, Index}
+use Rattle.checks.specs.declared.refusal.Refusal.TheVariants.{Length, Mixture, Offset, Pair, Room, Sign}
 
 -- what a refusal says
 abbrev pub said : Refusal → meaning.Refusal
 said Length = refuse 1 0 0
 said (Count table) = refuse 2 table 0
 said (Offset table) = refuse 3 table 0
+said End = refuse 3 0 0
 said (Code table row) = refuse 4 table row
 said (Index table row) = refuse 5 table row
 said (Pair comparison) = refuse 6 5 comparison

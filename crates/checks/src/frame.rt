@@ -67,7 +67,7 @@ fn check_offsets(bytes: &[u8]) -> Result<(), Refusal>
         at += size_of(k) * count_of(bytes, k);
     }
     if bytes.len() != at {
-        return Err(Refusal::Offset { table: 0 });
+        return Err(Refusal::End);
     }
     Ok(())
 }

@@ -29,6 +29,7 @@ fn wrong(book: &Book, marks: &[bool], a: usize) -> bool
     requires atom { a < atom_count book.now.frame.bytes.now }
     ensures { result ≡ wrong_in book.now.frame.bytes.now a }
 {
+    // by the byte, as the definition has it
     (book.frame.atom(a).given != 0) & ((book.kind(a) != Kind::Open) | marks[a])
 }
 
@@ -38,6 +39,7 @@ pub(crate) fn check_given(book: &Book) -> Result<(), Refusal>
     ensures { let t = tables book.now.frame.bytes.now in refused result ≡ refusal7 (reading t) t.atoms }
 {
     let marks = heads(book);
+    // as in check 8
     for a in 0..book.frame.count(ATOMS) {
         if wrong(book, &marks, a) {
             return Err(Refusal::Given { atom: a as u16 });

@@ -12,6 +12,7 @@ use book::tables::PREDICATES;
 use meaning::codes::Kind;
 use meaning::records::Predicate;
 
+// Of a record: `is_certain` of `Book` is of an atom.
 fn certain(predicate: Predicate) -> bool
     ensures { result ≡ is_certain (kind_of predicate.kind) }
 {
@@ -39,6 +40,7 @@ fn mixed_below(frame: &Frame, i: usize) -> bool
 pub(crate) fn check_mixture(frame: &Frame) -> Result<(), Refusal>
     ensures { refused result ≡ refusal8 (tables frame.now.bytes.now).predicates }
 {
+    // a loop of three lines: a search that is lent the test was tried, and is no shorter
     for i in 0..frame.count(PREDICATES) {
         if mixed_below(frame, i) {
             return Err(Refusal::Mixture {

@@ -11,8 +11,8 @@ use book::ready::Book;
 use meaning::codes::{Aggregate, Literal, Relation};
 
 // What a check asks of the atoms that a rule uses: 9 their levels, 10 the signs, 11 whether they are certain. It stays
-// an enum: a check is four answers (what it looks at, which heads it asks of, what it allows and what it refuses), and
-// four closures for each of the three would be no plainer than these four short matches.
+// an enum, with four short matches: `specs/Uses` gives each answer by its cases, and closures or a trait would say each
+// of them three times.
 #[derive(Clone, Copy, PartialEq, Eq)]
 pub(crate) enum Aspect {
     Height,

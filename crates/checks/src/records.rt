@@ -33,7 +33,7 @@ fn unlisted(frame: &Frame, k: usize, i: usize) -> bool
     }
 }
 
-// How many records a hypothesis may point at: sorts 0 and 1 at atoms, sort 2 at comparisons.
+// How many records a hypothesis may point at: sorts 0 and 1 at atoms, any other, as refusal 5 has it, at comparisons.
 fn among(frame: &Frame, sort: u8) -> usize
     ensures { let b = frame.now.bytes.now in result ≡ cond (ltb sort 2) (atom_count b) (comparison_count b) }
 {

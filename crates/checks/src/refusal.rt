@@ -10,8 +10,10 @@ pub enum Refusal {
     Length,
     // a count above its limit
     Count { table: u8 },
-    // an offset that is not where the body before ended; at table 0 the end of the book
+    // an offset that is not where the body before ended
     Offset { table: u8 },
+    // a length that is not the end of the last body
+    End,
     // a code or level that is not listed
     Code { table: u8, record: u16 },
     // an index that is not in its table
@@ -32,7 +34,7 @@ pub enum Refusal {
     Room,
 }
 
-// Number, table and record in one number, as the entry returns them.
+// Number, table and record, whatever they are, in one number, as the C entry returns them.
 pub fn packed(number: u8, table: u8, record: u16) -> u32
     ensures { result ≡ number * 10000000 + table * 1000000 + «record» }
 {
@@ -48,6 +50,7 @@ impl From<Refusal> for u32 {
             Refusal::Length => (1, 0, 0),
             Refusal::Count { table } => (2, table, 0),
             Refusal::Offset { table } => (3, table, 0),
+            Refusal::End => (3, 0, 0),
             Refusal::Code { table, record } => (4, table, record),
             Refusal::Index { table, record } => (5, table, record),
             Refusal::Pair { comparison } => (6, 5, comparison),

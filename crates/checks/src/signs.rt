@@ -4,6 +4,9 @@ ghost use Rattle.meaning.specs.Refusal.{grows, is_above, is_below, shrinks};
 
 use meaning::codes::{Aggregate, Relation};
 
+// The four of this file stay four: each is a row of document 01's table, and one function over the sign would have all
+// their cases.
+
 // > or ≥?
 fn is_above(relation: Relation) -> bool
     ensures { result ≡ is_above relation }

@@ -43,6 +43,7 @@ impl<'a> Reach<'a> {
         ensures { result ≡ hypothesis_reach self.now.view.book.frame.bytes.now self.now.view.aspect h }
     {
         let hypothesis = self.view.book.frame.hypothesis(h);
+        // a match was tried, and computes the code anew for each hypothesis
         let sort = Sort::from(hypothesis.sort);
         if sort == Sort::Comparison {
             return usize::from(self.found[hypothesis.index]);
@@ -61,6 +62,7 @@ impl<'a> Reach<'a> {
             return false;
         }
         let limit = self.view.limit_of(rule.head);
+        // `any` was tried, and reads the table's offset anew for each hypothesis
         for h in rule.first..rule.first + rule.many {
             if limit < self.hypothesis_reach(h) {
                 return true;
@@ -80,6 +82,7 @@ fn check_rules(book: &Book, aspect: Aspect) -> Result<(), Refusal>
         book: *book,
         aspect,
     });
+    // as in check 8
     for r in 0..book.frame.count(RULES) {
         if reach.rule_fault(r) {
             return Err(aspect.refusal(r as u16));
@@ -87,6 +90,8 @@ fn check_rules(book: &Book, aspect: Aspect) -> Result<(), Refusal>
     }
     Ok(())
 }
+
+// The three differ in the aspect alone; each has the contract of its own refusal.
 
 // 9: a rule uses a predicate of a higher level than its head's.
 pub(crate) fn check_heights(book: &Book) -> Result<(), Refusal>

@@ -7,7 +7,7 @@ use crate::write::write_answers;
 use book::tables::ATOMS;
 use checks::check::check;
 
-// A number in place of a Result: it is what C is given, 0 or the refusal's.
+// A number in place of a Result: its contract is the C entry's, 0 or the number of the refusal.
 #[tactic(auto, using(crate::proofs::AnswerLaws::answering))]
 pub fn answer(book: &[u8], room: &mut [u8]) -> u32
     ensures number { result ≡ (outcome book.now room.old).number }

@@ -12,7 +12,7 @@ ghost use Rattle.engine.specs.Levels.{level_is};
 use book::ready::Book;
 use book::tables::{ATOMS, MOST_ATOMS, PREDICATES};
 use judge::literal::{answer, set_answer};
-use steps::due::pending;
+use steps::level::Level;
 use theory::answer::Truth;
 
 // Has the level a predicate? One without costs no more than this look.
@@ -23,11 +23,11 @@ fn inhabited(book: &Book, level: usize) -> bool
 }
 
 // Is some atom of the level undefined?
-pub fn busy(book: &Book, answers: &[Truth], level: usize) -> bool
-    requires { length answers.now ≡ atom_count book.now.frame.bytes.now }
-    ensures { let b = book.now.frame.bytes.now in result ≡ any_to (pending_in b level answers.now) (atom_count b) }
+pub fn busy(level: &Level) -> bool
+    ensures { let b = level.now.book.frame.bytes.now in
+        result ≡ any_to (pending_in b level.now.number level.now.answers.now) (atom_count b) }
 {
-    inhabited(book, level) && (0..answers.len()).any(|a| pending(book, answers, level, a))
+    inhabited(&level.book, level.number) && (0..level.answers.len()).any(|a| level.pending(a))
 }
 
 #[tactic(auto, unfolding(meaning::specs::Model::closing))]

@@ -7,8 +7,8 @@ ghost use Rattle.steps.specs.Work.{levels_in, rules_in};
 
 use book::ready::Book;
 use book::tables::{ATOMS, MOST_ATOMS};
+use steps::level::Level;
 use steps::order::Order;
-use steps::round::round;
 use theory::answer::Truth;
 
 // Leads where as many rounds as there are atoms lead. The order is step (c)'s: no answer depends on what it holds.
@@ -20,7 +20,15 @@ pub fn rounds(book: &Book, level: usize, answers: &mut [Truth; MOST_ATOMS], orde
         ≡ times (atom_count b) (Model.round (rules_in b) (levels_in b) level) (take (atom_count b) answers.old) }
 {
     let n = book.frame.count(ATOMS);
-    while let Some(after) = round(book, level, &answers[..n], order) {
+    loop {
+        let at = Level {
+            book: *book,
+            number: level,
+            answers: &answers[..n],
+        };
+        let Some(after) = at.round(order) else {
+            return;
+        };
         *answers = after;
     }
 }

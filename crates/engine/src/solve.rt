@@ -9,6 +9,7 @@ use crate::levels::{busy, close_level, given_answers};
 use crate::rounds::rounds;
 use book::ready::Book;
 use book::tables::{ATOMS, MOST_ATOMS};
+use steps::level::Level;
 use steps::order::Order;
 use theory::answer::Truth;
 
@@ -20,7 +21,12 @@ fn work_level(book: &Book, level: usize, answers: &mut [Truth; MOST_ATOMS], orde
         ≡ Model.level (rules_in b) (levels_in b) level (take (atom_count b) answers.old) }
 {
     let n = book.frame.count(ATOMS);
-    if busy(book, &answers[..n], level) {
+    let at = Level {
+        book: *book,
+        number: level,
+        answers: &answers[..n],
+    };
+    if busy(&at) {
         rounds(book, level, answers, order);
         close_level(book, &mut answers[..n], level);
     }

@@ -5,7 +5,7 @@ ghost use Rattle.meaning.specs.Outcome.{written};
 use judge::literal::answer;
 use theory::answer::Truth;
 
-// As many answers as there is room for; later bytes stay.
+// As many answers as there is room for, as the bytes that C is given; later bytes stay.
 #[tactic(auto, using(crate::proofs::WriteLaws::written_all), unfolding(judge::specs::Held::held))]
 pub fn write_answers(answers: &[Truth], room: &mut [u8])
     ensures { room.new ≡ written (take (length room.old) answers.now) room.old }

@@ -24,8 +24,8 @@ use Rattle.meaning.specs.Truth.{body_truth, comparison_truth, hypothesis_truth, 
 use Rattle.book.proofs.Counts.{hypotheses_length}
 use Rattle.judge.proofs.RangeLaws.{slice_next}
 use Rattle.book.specs.Framed.{Indexed}
-use Rattle.book.specs.declared.ready.Book.{Book}
 use Rattle.book.specs.Records.{comparison_read, hypothesis_in, rule_in, rule_read}
+use Rattle.judge.specs.declared.judge.Judge.{Judge}
 use Rattle.judge.specs.Held.{fresh_at, held, record_truth, records_truth, rule_records, sort_truth}
 
 -- meets
@@ -121,43 +121,45 @@ first_of x = x.first
 abbrev many_of : RuleRecord → ℕ
 many_of x = x.many
 
--- what the hypotheses of rule r before h come to, the book and the answers being kept
-module _ (B : Book) (W : List Truth) (r : ℕ) where
+-- what the hypotheses of rule r before h come to, the judge being kept
+module _ (J : Judge) (r : ℕ) where
   abbrev b : List ℕ
-  b = B.frame.bytes.now
+  b = J.book.frame.bytes.now
+
+  abbrev W : List Truth
+  W = J.answers.now
 
   unfoldable pub body_to : ℕ → Truth
   body_to h = records_truth (held W) (fresh_at b W) (slice (rule_in b r).first h (tables b).hypotheses)
 
-  pub record Read (C : Book) (V : List Truth) (all : Truth) (h : ℕ) : Type 0 where
-    pub book : C ≡ B
-    pub answers : V ≡ W
+  pub record Read (K : Judge) (all : Truth) (h : ℕ) : Type 0 where
+    pub judge : K ≡ J
     pub all_is : all ≡ body_to h
     pub still_open : all ≡ Truth.False → ⊥
 
   module _ (x : RuleRecord) (k : r < rule_count b) (e : x ≡ rule_in b r) where
     past_within : x.first + x.many ≤ length (tables b).hypotheses
-    past_within = rw e (omega (arith, B.indexed.rule r k, hypotheses_length b))
+    past_within = rw e (omega (arith, J.book.indexed.rule r k, hypotheses_length b))
 
-    pub read_start : Read B W Truth.True x.first
+    pub read_start : Read J Truth.True x.first
     unfolding body_to records_truth
     read_start = record {
-      book = refl;
-      answers = refl;
+      judge = refl;
       all_is = rw (e, slice_empty (rule_in b r).first (tables b).hypotheses);
       still_open = true_not_false;
     }
 
-    module _ (C : Book) (V : List Truth) (all : Truth) (h : ℕ) (m : x.first ≤ h) (R : Read C V all h) where
-      pub read_within : h < x.first + x.many → h < hypothesis_count C.frame.bytes.now
-      read_within l = rw R.book (omega (arith, past_within, l, hypotheses_length b))
+    module _ (K : Judge) (all : Truth) (h : ℕ) (m : x.first ≤ h) (R : Read K all h) where
+      pub read_within : h < x.first + x.many → h < hypothesis_count K.book.frame.bytes.now
+      read_within l = rw R.judge (omega (arith, past_within, l, hypotheses_length b))
 
       module _
           (t : Truth)
           (l : h < x.first + x.many)
-          (et : t ≡ record_truth (held V) (fresh_at C.frame.bytes.now V) (hypothesis_in C.frame.bytes.now h)) where
+          (et : t ≡ record_truth (held K.answers.now) (fresh_at K.book.frame.bytes.now K.answers.now)
+          (hypothesis_in K.book.frame.bytes.now h)) where
         truth_is : t ≡ record_truth (held W) (fresh_at b W) (hypothesis_in b h)
-        truth_is = rw R.book at (rw R.answers at et)
+        truth_is = rw R.judge at et
 
         body_more : body_to (h + 1) ≡ meet (body_to h) t
         unfolding body_to
@@ -169,19 +171,17 @@ module _ (B : Book) (W : List Truth) (r : ℕ) where
             records_more (held W) (fresh_at b W) (slice first h hs) (hypothesis_in b h) ∙
             ap (meet (body_to h)) (sym truth_is)
 
-        module _ (C' : Book) (V' : List Truth) (eb : C' ≡ C) (ev : V' ≡ V) where
-          pub read_true : (y : Truth) → t ≡ Truth.True → y ≡ all → Read C' V' y (h + 1)
+        module _ (L : Judge) (same : L ≡ K) where
+          pub read_true : (y : Truth) → t ≡ Truth.True → y ≡ all → Read L y (h + 1)
           read_true y q p = record {
-            book = eb ∙ R.book;
-            answers = ev ∙ R.answers;
+            judge = same ∙ R.judge;
             all_is = p ∙ rw (body_more, q, meet_true) R.all_is;
             still_open = λ z. R.still_open (sym p ∙ z);
           }
 
-          pub read_undefined : (y : Truth) → t ≡ Truth.Undefined → y ≡ Truth.Undefined → Read C' V' y (h + 1)
+          pub read_undefined : (y : Truth) → t ≡ Truth.Undefined → y ≡ Truth.Undefined → Read L y (h + 1)
           read_undefined y q p = record {
-            book = eb ∙ R.book;
-            answers = ev ∙ R.answers;
+            judge = same ∙ R.judge;
             all_is = p ∙ rw (body_more, q, ← R.all_is) (sym (open_meet all R.still_open));
             still_open = λ z. not_false y z p;
           }
@@ -195,7 +195,7 @@ module _ (B : Book) (W : List Truth) (r : ℕ) where
             let here : first + i ≡ h = omega (arith, m, ap first_of e) in
             let to : first + i < past = omega (arith, here, l, ap first_of e, ap many_of e) in
             let inside : past ≤ length hs = omega (arith, past_within, ap first_of e, ap many_of e) in
-            sym (sym (fresh_body b W B.indexed r k) ∙
+            sym (sym (fresh_body b W J.book.indexed r k) ∙
             records_false (held W) (fresh_at b W) (slice first past hs) i
             (omega (arith, length-slice first past hs inside, to))
             (ap (record_truth (held W) (fresh_at b W))
@@ -207,6 +207,6 @@ module _ (B : Book) (W : List Truth) (r : ℕ) where
       unfolding body_to
       read_end l m =
           let same : h ≡ x.first + x.many = omega (arith, l (omega arith), m) in
-          R.all_is ∙ rw (same, e) (fresh_body b W B.indexed r k)
+          R.all_is ∙ rw (same, e) (fresh_body b W J.book.indexed r k)
 
 pub ruleset bodies = (read_start, read_within, read_true, read_undefined, read_false, read_end)

@@ -22,7 +22,8 @@ atom_is zero a = refl
 atom_is (suc s) a = refl
 
 pub atom_within : (b : List ℕ) (W : List Truth) (e : ℕ) (x : ElementRecord) (l : Literal) → Indexed b →
-    atom_count b ≤ length W → e < element_count b → x ≡ element_in b e → l ≡ literal_of x.sign x.atom → atom_of l < length W
+    atom_count b ≤ length W → e < element_count b → x ≡ element_in b e → l ≡ literal_of x.sign x.atom →
+    atom_of l < length W
 atom_within b W e x l I m n p q = rw (q, atom_is, p) (omega (arith, I.element e n, m))
 
 -- a small number is read back from its bits

@@ -1,13 +1,12 @@
 // The truth of a hypothesis and of a rule body. A comparison is judged when a rule first asks for it, once for a round.
-ghost use Rattle.std.specs.Prelude.{◌≡◌, ◌<◌, ◌≤◌, length};
-ghost use Rattle.meaning.specs.Format.{atom_count, comparison_count, hypothesis_count, rule_count};
+ghost use Rattle.std.specs.Prelude.{◌≡◌, ◌<◌};
+ghost use Rattle.meaning.specs.Format.{comparison_count, hypothesis_count, rule_count};
 ghost use Rattle.meaning.specs.Truth.{body_truth};
 ghost use Rattle.book.specs.Records.{hypothesis_in, rule_read};
 ghost use Rattle.judge.specs.Held.{Asked, fresh_at, held, record_truth};
 
-use crate::comparison::comparison;
+use crate::judge::Judge;
 use crate::literal::literal;
-use book::ready::Book;
 use book::tables::MOST_COMPARISONS;
 use meaning::codes::{Literal, Sort};
 use theory::answer::Truth;
@@ -15,65 +14,59 @@ use theory::answer::Truth;
 // The truths of rule bodies at some answers. Known are those of the comparisons that a rule has asked for.
 #[derive(Drop)]
 pub struct Bodies<'a> {
-    pub book: &'a Book<'a>,
-    pub answers: &'a [Truth],
-    known: [Option<Truth>; MOST_COMPARISONS],
-    ghost room: { atom_count book.now.frame.bytes.now ≤ length answers.now },
-    ghost asked: { Asked book.now.frame.bytes.now answers.now known },
+    pub judge: Judge<'a>,
+    pub known: [Option<Truth>; MOST_COMPARISONS],
+    ghost asked: { Asked judge.book.frame.bytes.now judge.answers.now known },
 }
 
 impl<'a> Bodies<'a> {
-    pub fn new(book: &'a Book<'a>, answers: &'a [Truth]) -> Bodies<'a>
-        requires { atom_count book.now.frame.bytes.now ≤ length answers.now }
-        ensures book { result.book.now ≡ book.now }
-        ensures answers { result.answers.now ≡ answers.now }
+    pub fn new(judge: &Judge<'a>) -> Bodies<'a>
+        ensures { result.judge ≡ judge.now }
     {
         Bodies {
-            book,
-            answers,
+            judge: *judge,
             known: [None; MOST_COMPARISONS],
         }
     }
 
+    // What is kept is a truth; a search of step (c) keeps other findings, and when they were made.
     fn compared(&mut self, c: usize) -> Truth
-        requires { c < comparison_count self.old.book.now.frame.bytes.now }
-        ensures is { result ≡ fresh_at self.old.book.now.frame.bytes.now self.old.answers.now c }
-        ensures book { self.new.book.now ≡ self.old.book.now }
-        ensures answers { self.new.answers.now ≡ self.old.answers.now }
+        requires { c < comparison_count self.old.judge.book.frame.bytes.now }
+        ensures is { result ≡ fresh_at self.old.judge.book.frame.bytes.now self.old.judge.answers.now c }
+        ensures judge { self.new.judge ≡ self.old.judge }
     {
         if let Some(truth) = self.known[c] {
             return truth;
         }
-        let truth = comparison(self.book, self.answers, c);
+        let truth = self.judge.comparison(c);
         self.known[c] = Some(truth);
         truth
     }
 
+    // Its truth; a search of step (c) asks whether it is false, and needs less.
     #[tactic(auto, unfolding(meaning::specs::Truth::literal_truth))]
     fn hypothesis(&mut self, h: usize) -> Truth
-        requires { h < hypothesis_count self.old.book.now.frame.bytes.now }
-        ensures is { let b = self.old.book.now.frame.bytes.now in let A = self.old.answers.now in
+        requires { h < hypothesis_count self.old.judge.book.frame.bytes.now }
+        ensures is { let b = self.old.judge.book.frame.bytes.now in let A = self.old.judge.answers.now in
             result ≡ record_truth (held A) (fresh_at b A) (hypothesis_in b h) }
-        ensures book { self.new.book.now ≡ self.old.book.now }
-        ensures answers { self.new.answers.now ≡ self.old.answers.now }
+        ensures judge { self.new.judge ≡ self.old.judge }
     {
-        let record = self.book.frame.hypothesis(h);
+        let record = self.judge.book.frame.hypothesis(h);
         match Sort::from(record.sort) {
-            Sort::Atom => literal(self.answers, Literal::Plain(record.index)),
-            Sort::NotAtom => literal(self.answers, Literal::Negated(record.index)),
+            Sort::Atom => literal(self.judge.answers, Literal::Plain(record.index)),
+            Sort::NotAtom => literal(self.judge.answers, Literal::Negated(record.index)),
             Sort::Comparison => self.compared(record.index),
         }
     }
 
     // True when all hypotheses are true and false when one is false: the first false one ends the reading.
     pub fn body(&mut self, r: usize) -> Truth
-        requires { r < rule_count self.old.book.now.frame.bytes.now }
-        ensures is { result ≡ body_truth (held self.old.answers.now)
-            (rule_read self.old.book.now.frame.bytes.now r).body }
-        ensures book { self.new.book.now ≡ self.old.book.now }
-        ensures answers { self.new.answers.now ≡ self.old.answers.now }
+        requires { r < rule_count self.old.judge.book.frame.bytes.now }
+        ensures is { let b = self.old.judge.book.frame.bytes.now in
+            result ≡ body_truth (held self.old.judge.answers.now) (rule_read b r).body }
+        ensures judge { self.new.judge ≡ self.old.judge }
     {
-        let rule = self.book.frame.rule(r);
+        let rule = self.judge.book.frame.rule(r);
         let mut all = Truth::True;
         for h in rule.first..rule.first + rule.many {
             match self.hypothesis(h) {

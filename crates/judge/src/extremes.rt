@@ -1,8 +1,8 @@
 // Max, and min by the reversed order.
-ghost use Rattle.std.specs.Prelude.{◌≡◌, ℤ, Bool, ◌&&◌, not, ◌+◌, ◌<◌, ◌≤◌, length};
+ghost use Rattle.std.specs.Prelude.{◌≡◌, ℤ, Bool, ◌&&◌, not, ◌+◌, ◌≤◌};
 ghost use Rattle.std.specs.Int.Signed.{lt_z};
 ghost use Rattle.theory.specs.Truth.{is_false, is_true};
-ghost use Rattle.meaning.specs.Format.{atom_count, element_count};
+ghost use Rattle.meaning.specs.Format.{element_count};
 ghost use Rattle.meaning.specs.declared.codes.Relation.{Relation};
 ghost use Rattle.meaning.specs.Reading.{relation_of};
 ghost use Rattle.meaning.specs.Truth.{above, attained, mirror};
@@ -10,9 +10,8 @@ ghost use Rattle.judge.specs.Held.{held};
 ghost use Rattle.judge.specs.Ranges.{elements_read};
 ghost use Rattle.judge.specs.Gathered.{added, gathered, judged, picked};
 
-use crate::elements::element;
+use crate::judge::Judge;
 use crate::relations::{decide, mirror_of};
-use book::ready::Book;
 use meaning::codes::Relation;
 use meaning::records::ComparisonRecord;
 use theory::answer::Truth;
@@ -91,6 +90,7 @@ const NONE: Extremes = Extremes {
 
 impl Extremes {
     // One element more: its truth, and whether its weight is below or above the bound.
+    #[inline(always)]
     fn add(&self, truth: Truth, below: bool, above: bool) -> Extremes
         ensures { result ≡ added self.now (is_true truth) (not (is_false truth)) below above }
     {
@@ -108,15 +108,15 @@ impl Extremes {
     }
 
     // Of the elements that c ranges over.
-    fn of<O: Order>(book: &Book, answers: &[Truth], c: &ComparisonRecord) -> Extremes
-        requires room { atom_count book.now.frame.bytes.now ≤ length answers.now }
-        requires there { c.now.first + c.now.many ≤ element_count book.now.frame.bytes.now }
-        ensures { result ≡ gathered O.below (held answers.now) c.now.bound
-            (elements_read book.now.frame.bytes.now c.now.first (c.now.first + c.now.many)) }
+    fn of<O: Order>(judge: &Judge, c: &ComparisonRecord) -> Extremes
+        requires { c.now.first + c.now.many ≤ element_count judge.now.book.frame.bytes.now }
+        ensures { let b = judge.now.book.frame.bytes.now in
+            let es = elements_read b c.now.first (c.now.first + c.now.many) in
+            result ≡ gathered O.below (held judge.now.answers.now) c.now.bound es }
     {
         let mut found = NONE;
         for e in c.first..c.first + c.many {
-            let next = element(book, answers, e);
+            let next = judge.element(e);
             let below = O::below(next.weight, c.bound);
             let above = O::below(c.bound, next.weight);
             found = found.add(next.truth, below, above);
@@ -140,15 +140,17 @@ impl Extremes {
     }
 }
 
-// Max and min, by their order.
-#[tactic(auto, using(crate::proofs::ExtremeLaws::attained_is))]
-pub fn extreme_truth<O: Order>(book: &Book, answers: &[Truth], c: &ComparisonRecord) -> Truth
-    requires room { atom_count book.now.frame.bytes.now ≤ length answers.now }
-    requires there { c.now.first + c.now.many ≤ element_count book.now.frame.bytes.now }
-    ensures { let es = elements_read book.now.frame.bytes.now c.now.first (c.now.first + c.now.many) in
-        let holds = λ (r : Relation). attained O.below (O.turned r) (held answers.now) es c.now.bound in
-        result ≡ judged holds (relation_of c.now.relation) }
-{
-    let found = Extremes::of::<O>(book, answers, c);
-    decide(Relation::from(c.relation), |r| found.attained(O::turned(r)))
+impl<'a> Judge<'a> {
+    // Max and min, by their order.
+    #[tactic(auto, using(crate::proofs::ExtremeLaws::attained_is))]
+    pub fn extreme_truth<O: Order>(&self, c: &ComparisonRecord) -> Truth
+        requires { c.now.first + c.now.many ≤ element_count self.now.book.frame.bytes.now }
+        ensures { let b = self.now.book.frame.bytes.now in let A = held self.now.answers.now in
+            let es = elements_read b c.now.first (c.now.first + c.now.many) in
+            let holds = λ (r : Relation). attained O.below (O.turned r) A es c.now.bound in
+            result ≡ judged holds (relation_of c.now.relation) }
+    {
+        let found = Extremes::of::<O>(self, c);
+        decide(Relation::from(c.relation), |r| found.attained(O::turned(r)))
+    }
 }

@@ -5,6 +5,7 @@ pub mod body;
 pub mod comparison;
 pub mod elements;
 pub mod extremes;
+pub mod judge;
 pub mod literal;
 pub mod relations;
 pub mod sums;

@@ -1,6 +1,6 @@
 // Count and sum: the least and the most that they can come to.
-ghost use Rattle.std.specs.Prelude.{◌≡◌, ℤ, pos, ◌+◌, ◌+ℤ◌, ◌^◌, ◌<◌, ◌≤◌, nat_abs, length};
-ghost use Rattle.meaning.specs.Format.{atom_count, element_count};
+ghost use Rattle.std.specs.Prelude.{◌≡◌, ℤ, pos, ◌+◌, ◌+ℤ◌, ◌^◌, ◌<◌, ◌≤◌, nat_abs};
+ghost use Rattle.meaning.specs.Format.{element_count};
 ghost use Rattle.meaning.specs.declared.codes.Relation.{Relation};
 ghost use Rattle.meaning.specs.Reading.{relation_of};
 ghost use Rattle.meaning.specs.Truth.{between, least, least_share, most, most_share, weighed};
@@ -8,9 +8,8 @@ ghost use Rattle.judge.specs.Gathered.{judged};
 ghost use Rattle.judge.specs.Held.{held};
 ghost use Rattle.judge.specs.Ranges.{elements_read, weighing};
 
-use crate::elements::element;
+use crate::judge::Judge;
 use crate::relations::decide;
-use book::ready::Book;
 use meaning::codes::Relation;
 use meaning::records::ComparisonRecord;
 use theory::answer::Truth;
@@ -79,17 +78,18 @@ impl Ends {
     }
 
     // Of the elements that c ranges over.
-    fn of<W: Weight>(book: &Book, answers: &[Truth], c: &ComparisonRecord) -> Ends
-        requires room { atom_count book.now.frame.bytes.now ≤ length answers.now }
-        requires there { c.now.first + c.now.many ≤ element_count book.now.frame.bytes.now }
-        ensures least { let es = elements_read book.now.frame.bytes.now c.now.first (c.now.first + c.now.many) in
-            result.least ≡ least (weighing W.weight) (held answers.now) es }
-        ensures most { let es = elements_read book.now.frame.bytes.now c.now.first (c.now.first + c.now.many) in
-            result.most ≡ most (weighing W.weight) (held answers.now) es }
+    fn of<W: Weight>(judge: &Judge, c: &ComparisonRecord) -> Ends
+        requires { c.now.first + c.now.many ≤ element_count judge.now.book.frame.bytes.now }
+        ensures least { let b = judge.now.book.frame.bytes.now in
+            let es = elements_read b c.now.first (c.now.first + c.now.many) in
+            result.least ≡ least (weighing W.weight) (held judge.now.answers.now) es }
+        ensures most { let b = judge.now.book.frame.bytes.now in
+            let es = elements_read b c.now.first (c.now.first + c.now.many) in
+            result.most ≡ most (weighing W.weight) (held judge.now.answers.now) es }
     {
         let mut found = NONE;
         for e in c.first..c.first + c.many {
-            let next = element(book, answers, e);
+            let next = judge.element(e);
             found = found.add(next.truth, W::weight(next.weight));
         }
         found
@@ -111,14 +111,16 @@ impl Ends {
     }
 }
 
-// Count and sum, by what an element weighs.
-pub fn sum_truth<W: Weight>(book: &Book, answers: &[Truth], c: &ComparisonRecord) -> Truth
-    requires room { atom_count book.now.frame.bytes.now ≤ length answers.now }
-    requires there { c.now.first + c.now.many ≤ element_count book.now.frame.bytes.now }
-    ensures { let es = elements_read book.now.frame.bytes.now c.now.first (c.now.first + c.now.many) in
-        let holds = λ (r : Relation). weighed (weighing W.weight) r (held answers.now) es c.now.bound in
-        result ≡ judged holds (relation_of c.now.relation) }
-{
-    let ends = Ends::of::<W>(book, answers, c);
-    decide(Relation::from(c.relation), |r| ends.between(r, c.bound))
+impl<'a> Judge<'a> {
+    // Count and sum, by what an element weighs.
+    pub fn sum_truth<W: Weight>(&self, c: &ComparisonRecord) -> Truth
+        requires { c.now.first + c.now.many ≤ element_count self.now.book.frame.bytes.now }
+        ensures { let b = self.now.book.frame.bytes.now in let A = held self.now.answers.now in
+            let es = elements_read b c.now.first (c.now.first + c.now.many) in
+            let holds = λ (r : Relation). weighed (weighing W.weight) r A es c.now.bound in
+            result ≡ judged holds (relation_of c.now.relation) }
+    {
+        let ends = Ends::of::<W>(self, c);
+        decide(Relation::from(c.relation), |r| ends.between(r, c.bound))
+    }
 }

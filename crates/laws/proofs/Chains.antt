@@ -48,10 +48,6 @@ module _ (P : ℕ → Type 0) (a b : ℕ) where
 abbrev pub Sought : (ℕ → Bool) → ℕ → ℕ → Bool → Type 0
 Sought t a b r = MatchBool r ((k : ℕ) × (a ≤ k) × (k < b) × So (t k)) (NoneBetween t a b)
 
--- and `all`: every one passes, or one does not
-abbrev pub Tested : (ℕ → Bool) → ℕ → ℕ → Bool → Type 0
-Tested t a b r = MatchBool r ((k : ℕ) → a ≤ k → k < b → So (t k)) ((k : ℕ) × (a ≤ k) × (k < b) × (t k ≡ false))
-
 -- each call answers the test, and leaves the closure as it was
 abbrev pub Answers : {F : Type 0} → Mut F (ℕ × Unit {0}) Bool → F → (ℕ → Bool) → Type 0
 Answers {F} g f t = (x : ℕ) (b : Bool) (q : F) → Called g f (x, tt) b q → (q ≡ f) × (b ≡ t x)

@@ -124,7 +124,8 @@ refusal_small b r e = go (first_of (frame_refusals b)) refl
   where
     go : (o : Option Refusal) → first_of (frame_refusals b) ≡ o → Small r
     go none p =
-        (first_small (later b room_length) (later_small b (passed_framed b (first_of (frame_refusals b)) refl p))).each r
+        (first_small (later b room_length)
+        (later_small b (passed_framed b (first_of (frame_refusals b)) refl p))).each r
         (sym (first_append (frame_refusals b) (later b room_length) p) ∙ e)
     go (some s) p =
         (first_small (frame_refusals b) (frame_small b)).each r

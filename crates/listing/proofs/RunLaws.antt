@@ -22,7 +22,8 @@ listed_start b rest start n e l m end = by_cases (dec_lt n read_most) (λ k. ap 
 
     cut : (n < read_most → ⊥) → listing_of start ≡ listing_of b
     cut k =
-        let q : take read_most b ≡ start = ap (take read_most) e ∙ take_at start rest read_most (omega (arith, l, m, k)) in
+        let q : take read_most b ≡ start =
+        ap (take read_most) e ∙ take_at start rest read_most (omega (arith, l, m, k)) in
         ap listing_of (sym q) ∙ longer_text b
 
 -- so what a writer got for the bytes that were read, it got for the input

@@ -19,7 +19,8 @@ impl From<u8> for Kind {
             0 => Kind::Certain,
             1 => Kind::Open,
             2 => Kind::Complete,
-            3.. => Kind::Closed,
+            3 => Kind::Closed,
+            4.. => Kind::Closed,
         }
     }
 }
@@ -41,7 +42,8 @@ impl From<u8> for Aggregate {
             0 => Aggregate::Count,
             1 => Aggregate::Sum,
             2 => Aggregate::Min,
-            3.. => Aggregate::Max,
+            3 => Aggregate::Max,
+            4.. => Aggregate::Max,
         }
     }
 }
@@ -67,7 +69,8 @@ impl From<u8> for Relation {
             2 => Relation::Lt,
             3 => Relation::Le,
             4 => Relation::Gt,
-            5.. => Relation::Ge,
+            5 => Relation::Ge,
+            6.. => Relation::Ge,
         }
     }
 }
@@ -87,7 +90,8 @@ impl From<u8> for Sort {
         match code {
             0 => Sort::Atom,
             1 => Sort::NotAtom,
-            2.. => Sort::Comparison,
+            2 => Sort::Comparison,
+            3.. => Sort::Comparison,
         }
     }
 }

@@ -1,4 +1,5 @@
-// The records of the six tables, as document 01 has them.
+// The records of the six tables, as document 01 has them. Codes are the bytes that stand there: refusal 4 is about
+// those that no case has.
 ghost use Rattle.std.specs.Prelude.{◌≡◌};
 ghost use Rattle.meaning.specs.Reading.{literal_of};
 

@@ -77,7 +77,8 @@ module _ (b : List ℕ) (n : ℕ) (A : List Truth) (a : ℕ) where
       So (candidate_in b n A a)
   unfolding candidate_in
   of_candidate k l t =
-      and_from _ _ (and_from _ _ (ap is_closed k) (eq-eqb (level_read b a) n l)) (of_not (is_true (held A a)) (λ e. t (true_of _ e)))
+      and_from _ _ (and_from _ _ (ap is_closed k) (eq-eqb (level_read b a) n l))
+      (of_not (is_true (held A a)) (λ e. t (true_of _ e)))
 
   -- past the table no atom is one
   candidate_out : atom_count b ≤ a → candidate_in b n A a ≡ false
@@ -253,7 +254,8 @@ module _ (b : List ℕ) (n : ℕ) (A W : List Truth) (size : length A ≡ atom_c
   only_unfounded : Unfounded (rules_in b) (levels_in b) n only (held A)
   only_unfounded = record {
     closed = λ a m.
-        let (c, l, _) = candidate_of b n A a (and_parts (candidate_in b n A a) _ (and_parts (chosen_in b n A W a) _ m).0).0 in (c, l);
+        let candidate = (and_parts (candidate_in b n A a) _ (and_parts (chosen_in b n A W a) _ m).0).0 in
+        let (c, l, _) = candidate_of b n A a candidate in (c, l);
     none_true = only_none;
     fails = only_fails;
   }
@@ -284,7 +286,8 @@ pub settled_exact : (b : List ℕ) (n : ℕ) (A W : List Truth) → Indexed b �
     ((a : ℕ) → a < atom_count b → only_assumed A W a ≡ false) → Exact b n A W
 settled_exact b n A W I size w none =
     refuted_exact b n A W size w
-    (λ r l f u. absurd (both_ways _ (none (rule_in b r).head (I.head r l)) (and_from _ _ (ap is_false f) (ap is_undefined u))))
+    (λ r l f u.
+    absurd (both_ways _ (none (rule_in b r).head (I.head r l)) (and_from _ _ (ap is_false f) (ap is_undefined u))))
 
 -- an answer that is made undefined
 pub less_known : (W : List Truth) (h : ℕ) → h < length W → held (set W h Truth.Undefined) ⊑ held W

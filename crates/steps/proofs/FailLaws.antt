@@ -24,13 +24,13 @@ use Rattle.meaning.specs.declared.records.RuleRecord.{RuleRecord}
 use Rattle.meaning.specs.Truth.{body_truth, meet}
 use Rattle.meaning.proofs.Bytes.{body_length}
 use Rattle.book.specs.Framed.{Indexed}
+use Rattle.book.specs.declared.ready.Book.{Book}
 use Rattle.book.specs.Records.{rule_in, rule_read}
 use Rattle.judge.specs.Held.{fresh_at, held, record_truth, records_truth, rule_records}
 use Rattle.judge.proofs.BodyLaws.{known_body}
-use Rattle.steps.specs.declared.search.Level.{Level}
-use Rattle.steps.specs.declared.search.Search.{Search}
+use Rattle.steps.specs.declared.search.Assumption.{Assumption}
 use Rattle.steps.specs.Strike.{Begins, fails_at, fails_in}
-use Rattle.steps.specs.Search.{Looked, book_in}
+use Rattle.steps.specs.Search.{Looked, book_of}
 
 -- a body is false if one of its hypotheses is
 meet_fails : (x y : Truth) → is_false (meet x y) ≡ (is_false x || is_false y)
@@ -107,41 +107,40 @@ module _ (b : List ℕ) (W : List Truth) (r : ℕ) (I : Indexed b) (l : r < rule
       ap not (body_fails ∙ false_from_ne_true _ (λ t. let (i, l, u) = any_number (fails_from b W first) many t in
       both_ways _ (c (first + i) (omega arith) (omega (arith, l))) u))
 
--- The search t was s, and none of the hypotheses looked at since is false: those from i on, up to j.
-pub record Clear (s t : Search) (i j : ℕ) : Type 0 where
+-- What is assumed was s and is t, and none of the hypotheses looked at since is false: those from i on, up to j.
+pub record Clear (s t : Assumption) (i j : ℕ) : Type 0 where
   pub looked : Looked s t
   pub order : i ≤ j
-  pub at : (h : ℕ) → i ≤ h → h < j → fails_at (book_in s) s.assumed h ≡ false
+  pub at : (h : ℕ) → i ≤ h → h < j → fails_at (book_of s) s.assumed h ≡ false
 
-pub looked_self : (s : Search) → Looked s s
-looked_self s = record { level = refl; assumed = refl; left = refl; front = refl }
+pub looked_self : (s : Assumption) → Looked s s
+looked_self s = record { book = refl; assumed = refl; left = refl }
 
-pub looked_on : (s t u : Search) → Looked s t → Looked t u → Looked s u
+pub looked_on : (s t u : Assumption) → Looked s t → Looked t u → Looked s u
 looked_on s t u L M = record {
-  level = M.level ∙ L.level;
+  book = M.book ∙ L.book;
   assumed = M.assumed ∙ L.assumed;
   left = M.left ∙ L.left;
-  front = M.front ∙ L.front;
 }
 
--- a search that differs only in what it knows: one hypothesis, and a range, before and after
-pub same_book : (s t : Search) → t.level ≡ s.level → book_in t ≡ book_in s
-same_book s t e = ap (λ (l : Level). l.book.frame.bytes.now) e
+-- where only what is known differs: one hypothesis, and a range, before and after
+same_book : (s t : Assumption) → t.book ≡ s.book → book_of t ≡ book_of s
+same_book s t e = ap (λ (k : Book). k.frame.bytes.now) e
 
-module _ (s t : Search) (L : Looked s t) where
-  same_at : (h : ℕ) → fails_at (book_in t) t.assumed h ≡ fails_at (book_in s) s.assumed h
-  same_at h = ap₂ (λ (b : List ℕ) (W : List Truth). fails_at b W h) (same_book s t L.level) L.assumed
+module _ (s t : Assumption) (L : Looked s t) where
+  same_at : (h : ℕ) → fails_at (book_of t) t.assumed h ≡ fails_at (book_of s) s.assumed h
+  same_at h = ap₂ (λ (b : List ℕ) (W : List Truth). fails_at b W h) (same_book s t L.book) L.assumed
 
-  pub same_in : (i j : ℕ) → fails_in (book_in t) t.assumed i j ≡ fails_in (book_in s) s.assumed i j
-  same_in i j = ap₂ (λ (b : List ℕ) (W : List Truth). fails_in b W i j) (same_book s t L.level) L.assumed
+  pub same_in : (i j : ℕ) → fails_in (book_of t) t.assumed i j ≡ fails_in (book_of s) s.assumed i j
+  same_in i j = ap₂ (λ (b : List ℕ) (W : List Truth). fails_in b W i j) (same_book s t L.book) L.assumed
 
-module _ (s : Search) (i : ℕ) where
+module _ (s : Assumption) (i : ℕ) where
   pub clear_start : Clear s s i i
   clear_start = record { looked = looked_self s; order = omega arith; at = λ h l m. absurd (omega (arith, l, m)) }
 
-  module _ (t : Search) (h : ℕ) (c : Clear s t i h) where
-    module _ (u : Search) (L : Looked t u) (v : Bool) where
-      pub clear_more : v ≡ fails_at (book_in t) t.assumed h → v ≡ false → Clear s u i (h + 1)
+  module _ (t : Assumption) (h : ℕ) (c : Clear s t i h) where
+    module _ (u : Assumption) (L : Looked t u) (v : Bool) where
+      pub clear_more : v ≡ fails_at (book_of t) t.assumed h → v ≡ false → Clear s u i (h + 1)
       clear_more p f = record {
         looked = looked_on s t u c.looked L;
         order = omega (arith, c.order);
@@ -149,7 +148,7 @@ module _ (s : Search) (i : ℕ) where
             (λ o. let q : h ≡ g = omega (arith, m, o) in rw (← q) (sym (same_at s t c.looked h) ∙ sym p ∙ f));
       }
 
-      pub clear_block : (e k : ℕ) → Begins h e k → v ≡ fails_in (book_in t) t.assumed (64 * k) (64 * k + 64) →
+      pub clear_block : (e k : ℕ) → Begins h e k → v ≡ fails_in (book_of t) t.assumed (64 * k) (64 * k + 64) →
           v ≡ false → Clear s u i (h + 64)
       clear_block e k B p f = record {
         looked = looked_on s t u c.looked L;
@@ -161,37 +160,37 @@ module _ (s : Search) (i : ℕ) where
       }
 
     -- the loop over a range
-    pub range_found : (j : ℕ) (v : Bool) → v ≡ fails_at (book_in t) t.assumed h → v ≡ true → h < j →
-        true ≡ fails_in (book_in s) s.assumed i j
+    pub range_found : (j : ℕ) (v : Bool) → v ≡ fails_at (book_of t) t.assumed h → v ≡ true → h < j →
+        true ≡ fails_in (book_of s) s.assumed i j
     range_found j v p e m = sym (in_some _ s.assumed i j h c.order m (sym (same_at s t c.looked h) ∙ sym p ∙ e))
 
-    pub range_clear : (j : ℕ) → j ≤ h → false ≡ fails_in (book_in s) s.assumed i j
+    pub range_clear : (j : ℕ) → j ≤ h → false ≡ fails_in (book_of s) s.assumed i j
     range_clear j l = sym (none_in _ s.assumed i j (λ g m n. c.at g m (omega (arith, l, n))))
 
 pub ruleset ranging = (clear_start, clear_more, range_found, range_clear)
 
 -- the loop over a rule's hypotheses: one after the other, or a block at once
-module _ (s t : Search) (r h : ℕ) (x : RuleRecord) (e : x ≡ rule_in (book_in s) r) (l : r < rule_count (book_in s))
+module _ (s t : Assumption) (r h : ℕ) (x : RuleRecord) (e : x ≡ rule_in (book_of s) r) (l : r < rule_count (book_of s))
     (c : Clear s t x.first h) where
-  pub supports_none : (v : Bool) → v ≡ fails_at (book_in t) t.assumed h → v ≡ true → h < x.first + x.many →
-      false ≡ not (is_false (body_truth (held s.assumed) (rule_read (book_in s) r).body))
+  pub supports_none : (v : Bool) → v ≡ fails_at (book_of t) t.assumed h → v ≡ true → h < x.first + x.many →
+      false ≡ not (is_false (body_truth (held s.assumed) (rule_read (book_of s) r).body))
   supports_none v p u n =
-      sym (some_fails (book_in s) s.assumed r s.level.book.indexed l h (rw e at c.order) (rw e at n)
+      sym (some_fails (book_of s) s.assumed r s.book.indexed l h (rw e at c.order) (rw e at n)
       (sym (same_at s t c.looked h) ∙ sym p ∙ u))
 
   pub supports_none_block : (k : ℕ) (v : Bool) → Begins h (x.first + x.many) k →
-      v ≡ fails_in (book_in t) t.assumed (64 * k) (64 * k + 64) → v ≡ true →
-      false ≡ not (is_false (body_truth (held s.assumed) (rule_read (book_in s) r).body))
+      v ≡ fails_in (book_of t) t.assumed (64 * k) (64 * k + 64) → v ≡ true →
+      false ≡ not (is_false (body_truth (held s.assumed) (rule_read (book_of s) r).body))
   supports_none_block k v B p u =
       let (g, i, j, z) = some_in _ s.assumed (64 * k) (64 * k + 64)
       (sym (same_in s t c.looked (64 * k) (64 * k + 64)) ∙ sym p ∙ u) in
       let low : x.first ≤ g = omega (arith, c.order, i, B.first) in
       let high : g < x.first + x.many = omega (arith, j, B.first, B.fits) in
-      sym (some_fails (book_in s) s.assumed r s.level.book.indexed l g (rw e at low) (rw e at high) z)
+      sym (some_fails (book_of s) s.assumed r s.book.indexed l g (rw e at low) (rw e at high) z)
 
   pub supports_all : x.first + x.many ≤ h →
-      true ≡ not (is_false (body_truth (held s.assumed) (rule_read (book_in s) r).body))
+      true ≡ not (is_false (body_truth (held s.assumed) (rule_read (book_of s) r).body))
   supports_all o =
-      let past : (rule_in (book_in s) r).first + (rule_in (book_in s) r).many ≤ h = rw e at o in
+      let past : (rule_in (book_of s) r).first + (rule_in (book_of s) r).many ≤ h = rw e at o in
       let at = rw e at c.at in
-      sym (none_fails (book_in s) s.assumed r s.level.book.indexed l (λ g m n. at g m (omega (arith, n, past))))
+      sym (none_fails (book_of s) s.assumed r s.book.indexed l (λ g m n. at g m (omega (arith, n, past))))

@@ -1,4 +1,4 @@
--- What a search knows of bodies: at its start, after a strike, and when a block of hypotheses has been judged.
+-- What is known of bodies: at its start, after a strike, and when a block of hypotheses has been judged.
 -- Assumes nothing.
 use mathlib.Core.Path.{◌≡◌, sym, ap, ◌∙◌}
 use mathlib.Core.Bool.{Bool, true, false}
@@ -22,9 +22,9 @@ use Rattle.meaning.proofs.Hypotheses.{hypothesis_local}
 use Rattle.book.specs.Records.{comparison_read, hypothesis_in}
 use Rattle.judge.specs.Held.{fresh_at, held, sort_truth}
 use Rattle.steps.specs.declared.search.Finding.{Finding}
-use Rattle.steps.specs.declared.search.Search.{Search}
-use Rattle.steps.specs.Strike.{Known, Searched, fails_at, fails_in, found_of}
-use Rattle.steps.specs.Search.{Looked, book_in}
+use Rattle.steps.specs.declared.search.Assumption.{Assumption}
+use Rattle.steps.specs.Strike.{Known, fails_at, fails_in, found_of}
+use Rattle.steps.specs.Search.{Looked, book_of}
 use Rattle.steps.proofs.WorkLaws.{replicated}
 use Rattle.steps.proofs.FailLaws.{in_none, none_in, same_in}
 
@@ -66,8 +66,8 @@ module _ (b : List ℕ) (W X : List Truth) (less : held X ⊑ held W) where
   fails_less : (h : ℕ) → fails_at b W h ≡ false → fails_at b X h ≡ false
   unfolding fails_at
   fails_less h f =
-      false_from_ne_true _ (λ t. both_ways _ f (ap is_false (sort_less (sort_of (hypothesis_in b h).sort) (hypothesis_in b h).index
-      (false_of _ t))))
+      let x = hypothesis_in b h in
+      false_from_ne_true _ (λ t. both_ways _ f (ap is_false (sort_less (sort_of x.sort) x.index (false_of _ t))))
 
   -- after a strike less is decided, and fewer are left
   pub known_less : (K : List Finding) (C : List Bool) (left now : ℕ) → now < left → Known b W K C left →
@@ -83,33 +83,29 @@ module _ (b : List ℕ) (W X : List Truth) (less : held X ⊑ held W) where
   }
 
 -- a block of hypotheses: one that is known to be clear, and one that was found so
-pub block_clear : (s : Search) (k : ℕ) → get_or s.clear k false ≡ true →
-    false ≡ fails_in (book_in s) s.assumed (64 * k) (64 * k + 64)
-block_clear s k t = sym (none_in _ s.assumed (64 * k) (64 * k + 64) (λ h m n. s.searched.known.clear k h t m n))
+pub block_clear : (s : Assumption) (k : ℕ) → get_or s.clear k false ≡ true →
+    false ≡ fails_in (book_of s) s.assumed (64 * k) (64 * k + 64)
+block_clear s k t = sym (none_in _ s.assumed (64 * k) (64 * k + 64) (λ h m n. s.known.clear k h t m n))
 
-pub block_kept : (s t : Search) (k : ℕ) (v : Bool) → Looked s t →
-    v ≡ fails_in (book_in s) s.assumed (64 * k) (64 * k + 64) → v ≡ false →
-    Searched (book_in t) t.level.number t.level.answers.now t.assumed t.comparisons (set t.clear k true) t.left
+pub block_kept : (s t : Assumption) (k : ℕ) (v : Bool) → Looked s t →
+    v ≡ fails_in (book_of s) s.assumed (64 * k) (64 * k + 64) → v ≡ false →
+    Known (book_of t) t.assumed t.comparisons (set t.clear k true) t.left
 block_kept s t k v L p f = record {
-  assumed = t.searched.assumed;
-  waits = t.searched.waits;
-  known = record {
-    long = K.long;
-    blocks = length-set t.clear k true ∙ K.blocks;
-    few = K.few;
-    late = K.late;
-    stays = K.stays;
-    falls = K.falls;
-    clear = λ j h e m n.
-        by-test (eqb j k)
-        (λ y. let q = eqb-true j k y in
-        in_none _ t.assumed (64 * k) (64 * k + 64) here h (omega (arith, q, m)) (omega (arith, q, n)))
-        (λ y. K.clear j h (sym (get_or-set_other t.clear k j true false (eqb-false j k y)) ∙ e) m n);
-  };
+  long = K.long;
+  blocks = length-set t.clear k true ∙ K.blocks;
+  few = K.few;
+  late = K.late;
+  stays = K.stays;
+  falls = K.falls;
+  clear = λ j h e m n.
+      by-test (eqb j k)
+      (λ y. let q = eqb-true j k y in
+      in_none _ t.assumed (64 * k) (64 * k + 64) here h (omega (arith, q, m)) (omega (arith, q, n)))
+      (λ y. K.clear j h (sym (get_or-set_other t.clear k j true false (eqb-false j k y)) ∙ e) m n);
 }
   where
-    K : Known (book_in t) t.assumed t.comparisons t.clear t.left
-    K = t.searched.known
+    K : Known (book_of t) t.assumed t.comparisons t.clear t.left
+    K = t.known
 
-    here : fails_in (book_in t) t.assumed (64 * k) (64 * k + 64) ≡ false
+    here : fails_in (book_of t) t.assumed (64 * k) (64 * k + 64) ≡ false
     here = same_in s t L (64 * k) (64 * k + 64) ∙ sym p ∙ f

@@ -20,9 +20,9 @@ use Rattle.meaning.specs.Format.{atom_count}
 use Rattle.book.specs.Records.{level_read}
 use Rattle.judge.specs.Held.{held}
 use Rattle.steps.specs.declared.search.Finding.{Finding}
-use Rattle.steps.specs.declared.search.Level.{Level}
+use Rattle.steps.specs.declared.level.Level.{Level}
 use Rattle.steps.specs.Due.{Due, due_in, pending_in}
-use Rattle.steps.specs.Strike.{Searched, counted_truth, only_assumed, waiting}
+use Rattle.steps.specs.Strike.{Known, Searched, counted_truth, only_assumed, waiting}
 use Rattle.steps.proofs.WorkLaws.{few, held_none, held_other, held_same}
 use Rattle.steps.proofs.AssumedLaws.{assumed_start, counts_wiped}
 use Rattle.steps.proofs.KnownLaws.{known_none}
@@ -107,14 +107,17 @@ module _ (s : Level) (D : List ℕ) (W : List Truth) (left a : ℕ) (w : Counted
     pub counted_fits : left + u < 2 ^ 16
     counted_fits = omega (arith, w.within, small, here_room, w.long)
 
-  pub counted_all : a ≤ length A → length A ≤ a → (x : ℕ) → x ≡ left →
-      Searched b s.number A W (replicate 512 Finding.Unknown) (replicate 64 false) x
-  counted_all m l x e =
-      let q : a ≡ atom_count b = omega (arith, m, l, s.whole) in
-      record {
-        assumed = assumed_start b s.number A W s.whole w.long
-            (λ i o. w.at i (omega (arith, o, q)) ∙ counts_wiped b s.number A D d i o)
-            (λ i o. w.rest i (omega (arith, o, q)));
-        waits = e ∙ w.waits ∙ rw q;
-        known = known_none b W x (omega (arith, e, w.within, q, few b s.book.frame.framed));
-      }
+  module _ (m : a ≤ length A) (l : length A ≤ a) (x : ℕ) (e : x ≡ left) where
+    all : a ≡ atom_count b
+    all = omega (arith, m, l, s.whole)
+
+    pub counted_all : Searched b s.number A W x
+    counted_all = record {
+      assumed = assumed_start b s.number A W s.whole w.long
+          (λ i o. w.at i (omega (arith, o, all)) ∙ counts_wiped b s.number A D d i o)
+          (λ i o. w.rest i (omega (arith, o, all)));
+      waits = e ∙ w.waits ∙ rw all;
+    }
+
+    pub counted_known : Known b W (replicate 512 Finding.Unknown) (replicate 64 false) x
+    counted_known = known_none b W x (omega (arith, e, w.within, all, few b s.book.frame.framed))

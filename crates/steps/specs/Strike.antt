@@ -81,8 +81,7 @@ pub record Known (b : List ℕ) (W : List Truth) (K : List Finding) (C : List Bo
       is_false (fresh_at b W c) ≡ true
   pub clear : (k h : ℕ) → get_or C k false ≡ true → 64 * k ≤ h → h < 64 * k + 64 → fails_at b W h ≡ false
 
--- how far a search of level n has come
-pub record Searched (b : List ℕ) (n : ℕ) (A W : List Truth) (K : List Finding) (C : List Bool) (left : ℕ) : Type 0 where
+-- how far a search of level n has come: what is assumed, and how many atoms are left
+pub record Searched (b : List ℕ) (n : ℕ) (A W : List Truth) (left : ℕ) : Type 0 where
   pub assumed : Assumed b n A W
   pub waits : left ≡ waiting A W (atom_count b)
-  pub known : Known b W K C left

@@ -6,10 +6,10 @@ ghost use Rattle.meaning.specs.Truth.{body_truth};
 ghost use Rattle.book.specs.Records.{rule_read};
 ghost use Rattle.judge.specs.Held.{fresh_at, held};
 ghost use Rattle.steps.specs.Strike.{Begins, fails_at, fails_in};
-ghost use Rattle.steps.specs.Search.{Looked, book_in};
+ghost use Rattle.steps.specs.Search.{Looked, book_of};
 
-use crate::search::{Finding, Search};
-use judge::comparison::comparison;
+use crate::search::{Assumption, Finding};
+use judge::judge::Judge;
 use judge::literal::literal;
 use meaning::codes::{Literal, Sort};
 use theory::answer::Truth;
@@ -29,15 +29,18 @@ fn block_at(h: usize, end: usize) -> Option<usize>
     Some(h / 64)
 }
 
-impl<'a> Search<'a> {
+impl<'a> Assumption<'a> {
     // Comparison c is judged, and what was found is kept.
     fn judged_false(&mut self, c: usize) -> bool
-        requires { c < comparison_count (book_in self.old) }
-        ensures is { result ≡ is_false (fresh_at (book_in self.old) self.old.assumed c) }
+        requires { c < comparison_count (book_of self.old) }
+        ensures is { result ≡ is_false (fresh_at (book_of self.old) self.old.assumed c) }
         ensures same { Looked self.old self.new }
     {
-        let book = self.level.book;
-        if comparison(&book, &self.assumed, c) == Truth::False {
+        let judge = Judge {
+            book: self.book,
+            answers: &self.assumed,
+        };
+        if judge.comparison(c) == Truth::False {
             self.comparisons[c] = Finding::FalseAt(self.left as u16);
             return true;
         }
@@ -46,8 +49,8 @@ impl<'a> Search<'a> {
     }
 
     fn comparison_fails(&mut self, c: usize) -> bool
-        requires { c < comparison_count (book_in self.old) }
-        ensures is { result ≡ is_false (fresh_at (book_in self.old) self.old.assumed c) }
+        requires { c < comparison_count (book_of self.old) }
+        ensures is { result ≡ is_false (fresh_at (book_of self.old) self.old.assumed c) }
         ensures same { Looked self.old self.new }
     {
         match self.comparisons[c] {
@@ -59,11 +62,11 @@ impl<'a> Search<'a> {
 
     #[tactic(auto, unfolding(crate::specs::Strike::fails_at, meaning::specs::Truth::literal_truth))]
     fn fails(&mut self, h: usize) -> bool
-        requires { h < hypothesis_count (book_in self.old) }
-        ensures is { result ≡ fails_at (book_in self.old) self.old.assumed h }
+        requires { h < hypothesis_count (book_of self.old) }
+        ensures is { result ≡ fails_at (book_of self.old) self.old.assumed h }
         ensures same { Looked self.old self.new }
     {
-        let hypothesis = self.level.book.frame.hypothesis(h);
+        let hypothesis = self.book.frame.hypothesis(h);
         let i = hypothesis.index;
         match Sort::from(hypothesis.sort) {
             Sort::Atom => literal(&self.assumed, Literal::Plain(i)) == Truth::False,
@@ -76,8 +79,8 @@ impl<'a> Search<'a> {
     #[tactic(auto, using(crate::proofs::FailLaws::ranging))]
     fn some_fails(&mut self, first: usize, end: usize) -> bool
         requires order { first ≤ end }
-        requires there { end ≤ hypothesis_count (book_in self.old) }
-        ensures is { result ≡ fails_in (book_in self.old) self.old.assumed first end }
+        requires there { end ≤ hypothesis_count (book_of self.old) }
+        ensures is { result ≡ fails_in (book_of self.old) self.old.assumed first end }
         ensures same { Looked self.old self.new }
     {
         for h in first..end {
@@ -92,8 +95,8 @@ impl<'a> Search<'a> {
     #[tactic(auto, using(crate::proofs::KnownLaws::block_clear))]
     fn block_fails(&mut self, k: usize) -> bool
         requires block { k < 64 }
-        requires there { 64 * k + 64 ≤ hypothesis_count (book_in self.old) }
-        ensures is { let b = book_in self.old in
+        requires there { 64 * k + 64 ≤ hypothesis_count (book_of self.old) }
+        ensures is { let b = book_of self.old in
             result ≡ fails_in b self.old.assumed (64 * k) (64 * k + 64) }
         ensures same { Looked self.old self.new }
     {
@@ -110,12 +113,12 @@ impl<'a> Search<'a> {
     // Is no hypothesis of rule r false?
     #[tactic(auto, using(crate::proofs::FailLaws::ranging))]
     pub fn supports(&mut self, r: usize) -> bool
-        requires { r < rule_count (book_in self.old) }
-        ensures is { let b = book_in self.old in
+        requires { r < rule_count (book_of self.old) }
+        ensures is { let b = book_of self.old in
             result ≡ not (is_false (body_truth (held self.old.assumed) (rule_read b r).body)) }
         ensures same { Looked self.old self.new }
     {
-        let rule = self.level.book.frame.rule(r);
+        let rule = self.book.frame.rule(r);
         let end = rule.first + rule.many;
         let mut h = rule.first;
         // by 64 or by 1, as no range goes

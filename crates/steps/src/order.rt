@@ -11,8 +11,9 @@ pub const START: usize = 2048;
 // A list linked by index, in fixed memory: there is no heap, and a rule that strikes moves to the front at once.
 #[derive(Drop)]
 pub struct Order {
-    // the rule after each, or START after the last; a rule that has never struck stands after itself
-    next: [u16; 2049],
+    // the rule after each, or START after the last; a rule that has never struck stands after itself. As options,
+    // tried, they take twice the room
+    pub next: [u16; 2049],
 }
 
 impl Order {

@@ -1,9 +1,9 @@
 // A search of step (c): what is assumed so far, and what it knows of rule bodies. Strikes only take answers away, so
 // what is not false stays so for the whole search, and what is false need not be judged again before the next strike.
-ghost use Rattle.std.specs.Prelude.{◌≡◌, ◌<◌, length};
-ghost use Rattle.meaning.specs.Format.{atom_count};
-ghost use Rattle.steps.specs.Strike.{Searched};
+ghost use Rattle.std.specs.Prelude.{◌≡◌, ◌<◌};
+ghost use Rattle.steps.specs.Strike.{Known, Searched};
 
+use crate::level::Level;
 use book::ready::Book;
 use book::tables::{MOST_ATOMS, MOST_COMPARISONS};
 use theory::answer::Truth;
@@ -16,19 +16,10 @@ pub enum Finding {
     FalseAt(u16),
 }
 
-// A level of a book, and the answers before the round.
-#[derive(Clone, Copy)]
-pub struct Level<'a> {
-    pub book: Book<'a>,
-    pub number: usize,
-    pub answers: &'a [Truth],
-    ghost whole: { length answers.now ≡ atom_count book.frame.bytes.now },
-}
-
-// How far it has come.
+// What is assumed at some moment, and what is known of rule bodies there.
 #[derive(Drop)]
-pub struct Search<'a> {
-    pub level: Level<'a>,
+pub struct Assumption<'a> {
+    pub book: Book<'a>,
     // the answers, with the candidates that no rule has taken back counted as false
     pub assumed: [Truth; MOST_ATOMS],
     // what was found of each comparison
@@ -37,9 +28,18 @@ pub struct Search<'a> {
     pub clear: [bool; 64],
     // how many atoms are left that are only assumed false
     pub left: usize,
+    ghost known: { Known book.frame.bytes.now assumed comparisons clear left },
+}
+
+// How far it has come.
+#[derive(Drop)]
+pub struct Search<'a> {
+    pub level: Level<'a>,
+    pub state: Assumption<'a>,
     // the rule that struck last, or where the order starts
     pub front: usize,
+    ghost same: { state.book ≡ level.book },
     ghost searched: { let b = level.book.frame.bytes.now in
-        Searched b level.number level.answers.now assumed comparisons clear left },
+        Searched b level.number level.answers.now state.assumed state.left },
     ghost place: { front < 2049 },
 }

@@ -3,7 +3,7 @@ ghost use Rattle.std.specs.Prelude.{◌≡◌, true, false, ◌<◌, ◌≤◌};
 ghost use Rattle.meaning.specs.Format.{rule_count};
 ghost use Rattle.steps.specs.Work.{Exact};
 ghost use Rattle.steps.specs.Strike.{strikes_at};
-ghost use Rattle.steps.specs.Search.{Looked, book_in};
+ghost use Rattle.steps.specs.Search.{Quiet, book_in};
 
 use crate::order::Order;
 use crate::search::Search;
@@ -17,35 +17,37 @@ impl<'a> Search<'a> {
     fn strikes(&mut self, r: usize) -> bool
         requires { r < rule_count (book_in self.old) }
         ensures is { let s = self.old in
-            result ≡ strikes_at (book_in s) s.level.answers.now s.assumed r }
-        ensures same { Looked self.old self.new }
+            result ≡ strikes_at (book_in s) s.level.answers.now s.state.assumed r }
+        ensures same { Quiet self.old self.new }
     {
         let h = self.level.book.frame.rule(r).head;
-        if answer(&self.assumed, h) != Truth::False {
+        if answer(&self.state.assumed, h) != Truth::False {
             return false;
         }
         if answer(self.level.answers, h) != Truth::Undefined {
             return false;
         }
-        self.supports(r)
+        self.state.supports(r)
     }
 
     // Rule r strikes, if it must: its head counts as false no longer. Returns whether it did.
+    #[inline(always)]
     #[tactic(auto, using(crate::proofs::SearchLaws::strike_some, crate::proofs::SearchLaws::strike_lower))]
     fn strike(&mut self, r: usize) -> bool
         requires { r < rule_count (book_in self.old) }
         ensures is { let s = self.old in
-            result ≡ strikes_at (book_in s) s.level.answers.now s.assumed r }
+            result ≡ strikes_at (book_in s) s.level.answers.now s.state.assumed r }
         ensures level { self.new.level ≡ self.old.level }
-        ensures lower { result ≡ true → self.new.left < self.old.left }
-        ensures same { result ≡ false → Looked self.old self.new }
+        ensures lower { result ≡ true → self.new.state.left < self.old.state.left }
+        ensures same { result ≡ false → Quiet self.old self.new }
     {
         if !self.strikes(r) {
             return false;
         }
         let h = self.level.book.frame.rule(r).head;
-        set_answer(&mut self.assumed, h, Truth::Undefined);
-        self.left -= 1;
+        let state = &mut self.state;
+        set_answer(&mut state.assumed, h, Truth::Undefined);
+        state.left -= 1;
         true
     }
 
@@ -53,14 +55,14 @@ impl<'a> Search<'a> {
     // front.
     fn try_order(&mut self, order: &mut Order)
         ensures level { self.new.level ≡ self.old.level }
-        ensures fewer { self.new.left ≤ self.old.left }
+        ensures fewer { self.new.state.left ≤ self.old.state.left }
     {
         let rules = self.level.book.frame.count(RULES);
         let mut p = self.front;
         let mut quiet = 0;
         // a rule that strikes does not count, as it would in a `for`
         while quiet < rules {
-            if self.left == 0 {
+            if self.state.left == 0 {
                 break;
             }
             let r = order.after(p);
@@ -81,9 +83,10 @@ impl<'a> Search<'a> {
     #[tactic(auto, using(crate::proofs::SearchLaws::passing))]
     fn pass(&mut self, order: &mut Order) -> bool
         ensures level { self.new.level ≡ self.old.level }
-        ensures lower { result ≡ true → self.new.left < self.old.left }
+        ensures fewer { self.new.state.left ≤ self.old.state.left }
+        ensures lower { result ≡ true → self.new.state.left < self.old.state.left }
         ensures ends { let s = self.new in
-            result ≡ false → Exact (book_in s) s.level.number s.level.answers.now s.assumed }
+            result ≡ false → Exact (book_in s) s.level.number s.level.answers.now s.state.assumed }
     {
         let mut struck = false;
         for r in 0..self.level.book.frame.count(RULES) {
@@ -100,12 +103,13 @@ impl<'a> Search<'a> {
     #[tactic(auto, using(crate::proofs::SearchLaws::left_none))]
     pub fn turn(&mut self, order: &mut Order) -> bool
         ensures level { self.new.level ≡ self.old.level }
-        ensures lower { result ≡ true → self.new.left < self.old.left }
+        ensures fewer { self.new.state.left ≤ self.old.state.left }
+        ensures lower { result ≡ true → self.new.state.left < self.old.state.left }
         ensures ends { let s = self.new in
-            result ≡ false → Exact (book_in s) s.level.number s.level.answers.now s.assumed }
+            result ≡ false → Exact (book_in s) s.level.number s.level.answers.now s.state.assumed }
     {
         self.try_order(order);
-        if self.left == 0 {
+        if self.state.left == 0 {
             return false;
         }
         self.pass(order)

@@ -29,9 +29,10 @@ impl From<u8> for Truth {
 
     fn from(code: u8) -> Truth {
         match code {
+            0 => Truth::Undefined,
             1 => Truth::True,
             2 => Truth::False,
-            _ => Truth::Undefined,
+            3.. => Truth::Undefined,
         }
     }
 }

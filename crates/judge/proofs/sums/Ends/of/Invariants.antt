@@ -3,4 +3,4 @@ use Rattle.judge.proofs.SumLaws.{Summed}
 use Rattle.judge.proofs.sums.Ends.of.Given as goal
 
 abbrev pub invariant-loop-e : goal.invariant-loop-e
-invariant-loop-e g l = Summed g.W.Weight.weight l.book.frame.bytes.now l.answers l.c.first l.e l.found
+invariant-loop-e g l = Summed g.W.Weight.weight l.judge.book.frame.bytes.now l.judge.answers.now l.c.first l.e l.found

@@ -1,7 +1,7 @@
--- `Search::supports`: a block passed is clear, and a body is false if a hypothesis is. Assumes nothing.
+-- `Assumption::supports`: a block passed is clear, and a body is false if a hypothesis is. Assumes nothing.
 use Rattle.std.proofs.Common.{rules}
 use Rattle.steps.proofs.FailLaws.{clear_block, supports_all, supports_none, supports_none_block}
-use Rattle.steps.proofs.search.Search.supports.Goals as goal
+use Rattle.steps.proofs.search.Assumption.supports.Goals as goal
 
 pub returns-then-block_fails-clause-is : goal.returns-then-block_fails-clause-is
 returns-then-block_fails-clause-is c = search (rules, supports_none_block, c.in-Some.ensures)

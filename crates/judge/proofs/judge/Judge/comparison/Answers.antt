@@ -1,8 +1,8 @@
--- `comparison` goes by its aggregate. Assumes nothing.
+-- `Judge::comparison` goes by its aggregate. Assumes nothing.
 use Rattle.std.proofs.Common.{rules}
 use Rattle.meaning.specs.Truth.{holds}
 use Rattle.judge.proofs.ComparisonLaws.{comparison_is}
-use Rattle.judge.proofs.comparison.comparison.Goals as goal
+use Rattle.judge.proofs.judge.Judge.comparison.Goals as goal
 
 pub returns-in-Count : goal.returns-in-Count
 unfolding holds

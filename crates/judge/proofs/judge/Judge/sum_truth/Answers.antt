@@ -1,7 +1,7 @@
--- `sum_truth` asks its relation and the opposite of the same two ends. Assumes nothing.
+-- `Judge::sum_truth` asks its relation and the opposite of the same two ends. Assumes nothing.
 use Rattle.std.proofs.Common.{rules}
 use Rattle.meaning.specs.Truth.{between}
-use Rattle.judge.proofs.sums.sum_truth.Goals as goal
+use Rattle.judge.proofs.judge.Judge.sum_truth.Goals as goal
 
 pub returns : goal.returns
 returns g c =
