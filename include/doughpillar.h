@@ -1,7 +1,7 @@
 /* Doughpillar: true, false or undefined for each atom of a rule book, or one numbered refusal. For C99 and C++.
 
    The bytes of a book: FORMAT.md. Each function may be called from several threads at once: nothing is kept between
-   calls, and the library has no memory of its own. It calls nothing but memcpy and memset. A call takes some 51 KB of
+   calls, and the library has no memory of its own. It calls nothing but memcpy and memset. A call takes some 37 KB of
    stack; leave it 64 KB. Every call ends, and books as people write them were measured at less than 0.1 s. The worst
    books that we know, made for it, take some seconds (docs/BENCHMARK.md, "Hostile books"), and nothing is proved of the
    time: a host that takes books from anybody calls it where it may wait. */
