@@ -3,6 +3,8 @@
 pub mod RangeLaws
 -- what an element is and weighs
 pub mod ElementLaws
+-- the literal that a hypothesis is about
+pub mod LiteralLaws
 -- the truths of comparisons that were asked for
 pub mod AskedLaws
 -- count and sum

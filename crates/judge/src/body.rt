@@ -8,7 +8,6 @@ ghost use Rattle.judge.specs.Held.{Asked, fresh_at, held, record_truth};
 use crate::judge::Judge;
 use crate::literal::literal;
 use book::tables::MOST_COMPARISONS;
-use meaning::codes::{Literal, Sort};
 use theory::answer::Truth;
 
 // The truths of rule bodies at some answers. Known are those of the comparisons that a rule has asked for.
@@ -44,7 +43,7 @@ impl<'a> Bodies<'a> {
     }
 
     // Its truth; a search of step (c) asks whether it is false, and needs less.
-    #[tactic(auto, unfolding(meaning::specs::Truth::literal_truth))]
+    #[tactic(auto, using(crate::proofs::LiteralLaws::literals))]
     fn hypothesis(&mut self, h: usize) -> Truth
         requires { h < hypothesis_count self.old.judge.book.frame.bytes.now }
         ensures is { let b = self.old.judge.book.frame.bytes.now in let A = self.old.judge.answers.now in
@@ -52,10 +51,9 @@ impl<'a> Bodies<'a> {
         ensures judge { self.new.judge ≡ self.old.judge }
     {
         let record = self.judge.book.frame.hypothesis(h);
-        match Sort::from(record.sort) {
-            Sort::Atom => literal(self.judge.answers, Literal::Plain(record.index)),
-            Sort::NotAtom => literal(self.judge.answers, Literal::Negated(record.index)),
-            Sort::Comparison => self.compared(record.index),
+        match record.literal() {
+            Some(asked) => literal(self.judge.answers, asked),
+            None => self.compared(record.index),
         }
     }
 

@@ -1,7 +1,6 @@
 // Max, and min by the reversed order.
-ghost use Rattle.std.specs.Prelude.{◌≡◌, ℤ, Bool, ◌&&◌, not, ◌+◌, ◌≤◌};
+ghost use Rattle.std.specs.Prelude.{◌≡◌, ℤ, Bool, ◌&&◌, ◌+◌, ◌≤◌};
 ghost use Rattle.std.specs.Int.Signed.{lt_z};
-ghost use Rattle.theory.specs.Truth.{is_false, is_true};
 ghost use Rattle.meaning.specs.Format.{element_count};
 ghost use Rattle.meaning.specs.declared.codes.Relation.{Relation};
 ghost use Rattle.meaning.specs.Reading.{relation_of};
@@ -89,13 +88,11 @@ const NONE: Extremes = Extremes {
 };
 
 impl Extremes {
-    // One element more: its truth, and whether its weight is below or above the bound.
+    // One element more: is it definite, is it possible, and is its weight below or above the bound?
     #[inline(always)]
-    fn add(&self, truth: Truth, below: bool, above: bool) -> Extremes
-        ensures { result ≡ added self.now (is_true truth) (not (is_false truth)) below above }
+    fn add(&self, definite: bool, possible: bool, below: bool, above: bool) -> Extremes
+        ensures { result ≡ added self.now definite possible below above }
     {
-        let definite = truth == Truth::True;
-        let possible = truth != Truth::False;
         Extremes {
             definite: self.definite | definite,
             equal: self.equal | (definite & (!below & !above)),
@@ -116,10 +113,10 @@ impl Extremes {
     {
         let mut found = NONE;
         for e in c.first..c.first + c.many {
-            let next = judge.element(e);
+            let next = judge.tested(e);
             let below = O::below(next.weight, c.bound);
             let above = O::below(c.bound, next.weight);
-            found = found.add(next.truth, below, above);
+            found = found.add(next.definite, next.possible, below, above);
         }
         found
     }

@@ -3,6 +3,8 @@
 -- nothing.
 use Rattle.std.specs.Prelude.{ℕ, zero, suc, ◌+◌, Bool, true, false, List, [], ◌∷◌, map, ℤ, get_or}
 use Rattle.std.proofs.Math.Seq.{slice}
+use Rattle.std.specs.declared.option.Option.{Option}
+use Rattle.std.specs.declared.option.Option.TheVariants.{None, Some}
 use Rattle.theory.specs.declared.answer.Truth.{Truth}
 pub use Rattle.theory.specs.Truth.{code_of, truth_of}
 use Rattle.meaning.specs.declared.records.Predicate.{Predicate}
@@ -63,6 +65,12 @@ sort_of code = get_or (Sort.Atom ∷ Sort.NotAtom ∷ Sort.Comparison ∷ []) co
 abbrev pub literal_of : ℕ → ℕ → Literal
 literal_of zero a = Plain a
 literal_of (suc sign) a = Negated a
+
+-- the literal that a hypothesis is about, by its sort, if that is no comparison
+abbrev pub literal_in : ℕ → ℕ → Option Literal
+literal_in zero i = Some (Plain i)
+literal_in (suc zero) i = Some (Negated i)
+literal_in (suc (suc sort)) i = None
 
 -- what a rule and a comparison range over; ranges may overlap
 abbrev pub range : {X : Type 0} → ℕ → ℕ → List X → List X

@@ -1,7 +1,7 @@
 // The records of the six tables, as document 01 has them. Codes are the bytes that stand there: refusal 4 is about
 // those that no case has.
 ghost use Rattle.std.specs.Prelude.{◌≡◌};
-ghost use Rattle.meaning.specs.Reading.{literal_of};
+ghost use Rattle.meaning.specs.Reading.{literal_in, literal_of};
 
 use crate::codes::Literal;
 
@@ -44,6 +44,19 @@ pub struct ElementRecord {
     pub sign: u8,
     pub atom: usize,
     pub weight: i64,
+}
+
+impl HypothesisRecord {
+    // The literal that it is about, if that is no comparison.
+    pub fn literal(self) -> Option<Literal>
+        ensures { result ≡ literal_in self.sort self.index }
+    {
+        match self.sort {
+            0 => Some(Literal::Plain(self.index)),
+            1 => Some(Literal::Negated(self.index)),
+            2.. => None,
+        }
+    }
 }
 
 impl ElementRecord {

@@ -10,8 +10,7 @@ ghost use Rattle.steps.specs.Search.{Looked, book_of};
 
 use crate::search::{Assumption, Finding};
 use judge::judge::Judge;
-use judge::literal::literal;
-use meaning::codes::{Literal, Sort};
+use judge::literal::is_false;
 use theory::answer::Truth;
 
 // The block that begins at h, if it ends by `end`.
@@ -60,18 +59,16 @@ impl<'a> Assumption<'a> {
         }
     }
 
-    #[tactic(auto, unfolding(crate::specs::Strike::fails_at, meaning::specs::Truth::literal_truth))]
+    #[tactic(auto, using(judge::proofs::LiteralLaws::literals), unfolding(crate::specs::Strike::fails_at))]
     fn fails(&mut self, h: usize) -> bool
         requires { h < hypothesis_count (book_of self.old) }
         ensures is { result ≡ fails_at (book_of self.old) self.old.assumed h }
         ensures same { Looked self.old self.new }
     {
         let hypothesis = self.book.frame.hypothesis(h);
-        let i = hypothesis.index;
-        match Sort::from(hypothesis.sort) {
-            Sort::Atom => literal(&self.assumed, Literal::Plain(i)) == Truth::False,
-            Sort::NotAtom => literal(&self.assumed, Literal::Negated(i)) == Truth::False,
-            Sort::Comparison => self.comparison_fails(i),
+        match hypothesis.literal() {
+            Some(literal) => is_false(&self.assumed, literal),
+            None => self.comparison_fails(hypothesis.index),
         }
     }
 
@@ -111,6 +108,7 @@ impl<'a> Assumption<'a> {
     }
 
     // Is no hypothesis of rule r false?
+    #[inline(always)]
     #[tactic(auto, using(crate::proofs::FailLaws::ranging))]
     pub fn supports(&mut self, r: usize) -> bool
         requires { r < rule_count (book_of self.old) }

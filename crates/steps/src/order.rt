@@ -9,7 +9,7 @@ use book::tables::MOST_RULES;
 pub const START: usize = 2048;
 
 // A list linked by index, in fixed memory: there is no heap, and a rule that strikes moves to the front at once.
-#[derive(Drop)]
+#[derive(Clone, Copy)]
 pub struct Order {
     // the rule after each, or START after the last; a rule that has never struck stands after itself. As options,
     // tried, they take twice the room

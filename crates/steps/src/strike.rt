@@ -12,7 +12,9 @@ use judge::literal::{answer, set_answer};
 use theory::answer::Truth;
 
 impl<'a> Search<'a> {
-    // Does rule r support a head that is undefined and only assumed false?
+    // Does rule r support a head that is undefined and only assumed false? Most do not: this is written into both loops
+    // (`inline`), since a call would cost more than its first test.
+    #[inline(always)]
     #[tactic(auto, unfolding(crate::specs::Strike::strikes_at))]
     fn strikes(&mut self, r: usize) -> bool
         requires { r < rule_count (book_in self.old) }
