@@ -14,29 +14,31 @@ use book::ready::Book;
 use book::tables::{COMPARISONS, MOST_COMPARISONS, RULES};
 use meaning::codes::Sort;
 
-// How high each comparison of a book reaches. What asks this is written into each of the three checks (`inline`), so
-// that no loop asks which of them it is: a book whose rules name many hypotheses then takes a fifth less.
-#[derive(Drop)]
-struct Reach<'a> {
-    view: View<'a>,
-    found: [u16; MOST_COMPARISONS],
-    ghost right: { let b = view.book.frame.bytes.now in Reaches b view.aspect (comparison_count b) found },
+// How high each comparison of a book reaches, found once for all rules that name it.
+#[inline(always)]
+fn reaches(view: View) -> [u16; MOST_COMPARISONS]
+    ensures { let b = view.entry.book.frame.bytes.now in Reaches b view.entry.aspect (comparison_count b) result }
+{
+    let mut found = [0u16; MOST_COMPARISONS];
+    for c in 0..view.book.frame.count(COMPARISONS) {
+        found[c] = view.comparison_reach(c) as u16;
+    }
+    found
 }
 
-impl<'a> Reach<'a> {
-    // Each is found once, for all rules that name it.
-    #[inline(always)]
-    fn of(view: View<'a>) -> Reach<'a>
-        ensures { result.view ≡ view.entry }
-    {
-        let mut found = [0u16; MOST_COMPARISONS];
-        for c in 0..view.book.frame.count(COMPARISONS) {
-            found[c] = view.comparison_reach(c) as u16;
-        }
-        Reach { view, found }
-    }
+// A book as one of the three checks looks at it, and how high its comparisons reach. What asks this is written into
+// each of the three (`inline`), so that no loop asks which of them it is. The array is lent for that: one that stood in
+// here would keep the aspect in memory beside it, and a book whose rules name many hypotheses takes a third more then.
+#[derive(Clone, Copy)]
+struct Reach<'a, 'b> {
+    view: View<'a>,
+    found: &'b [u16; MOST_COMPARISONS],
+    ghost right: { let b = view.book.frame.bytes.now in Reaches b view.aspect (comparison_count b) found.now },
+}
 
+impl<'a, 'b> Reach<'a, 'b> {
     // How high hypothesis h reaches.
+    #[inline(always)]
     #[tactic(auto, using(crate::proofs::HypothesisLaws::sorts))]
     fn hypothesis_reach(&self, h: usize) -> usize
         requires { h < hypothesis_count self.now.view.book.frame.bytes.now }
@@ -78,10 +80,15 @@ impl<'a> Reach<'a> {
 fn check_rules(book: &Book, aspect: Aspect) -> Result<(), Refusal>
     ensures { refused result ≡ rule_refusal book.now.frame.bytes.now aspect }
 {
-    let reach = Reach::of(View {
+    let view = View {
         book: *book,
         aspect,
-    });
+    };
+    let found = reaches(view);
+    let reach = Reach {
+        view,
+        found: &found,
+    };
     // as in check 8
     for r in 0..book.frame.count(RULES) {
         if reach.rule_fault(r) {
