@@ -1,18 +1,19 @@
 -- The program's text is that of the book's refusal or of its model, and its contract admits no other. Assumes nothing.
-use mathlib.Core.Path.{◌≡◌, refl, sym, ap, ◌∙◌}
-use mathlib.Core.List.{List, map}
+use mathlib.Core.Path.{◌≡◌, refl, sym, ap, ap₂, ◌∙◌}
+use mathlib.Core.List.{List, ◌++◌, map}
 use mathlib.Core.Logic.{by_cases}
 use mathlib.Core.Option.{Option, none, some}
 use Prim.Native.Nat.{ℕ, ◌<◌}
 use native.Mathlib.Decide.{dec_lt}
 use native.Mathlib.Omega.{arith}
-use lib.ListN.{length, drop, length-map, take, get_or-append}
+use lib.ListN.{length, drop, length-map, take, take-append-drop, get_or-append}
 use lib.Seq.{take_all}
 use contract.Lifetimes.{Lfts}
 use borrow.Fn.Kinds.{ended_of}
 use borrow.Fn.World.{ArgsD, ResD}
 use denote.Triple.Clauses.{AtExit}
 use borrow.Author.Tests.{ne_eqb}
+use Rattle.std.specs.Counts.{IsPrefixLen}
 use Rattle.meaning.specs.Format.{atom_count}
 use Rattle.meaning.specs.Reading.{code_of}
 use Rattle.meaning.specs.Refusal.{Refusal, packed, refusal}
@@ -27,6 +28,9 @@ use Rattle.listing.specs.Text.{answers_text, listing_of, read_most, refused_text
 use Rattle.listing.specs.contracts.list.list.{signature}
 use Rattle.listing.proofs.list.list.Kinds as kinds
 use Rattle.listing.proofs.list.list.Reads as reads
+use Rattle.listing.specs.contracts.list.list_text as text
+use Rattle.listing.proofs.list.list_text.Kinds as text_kinds
+use Rattle.listing.proofs.list.list_text.Reads as text_reads
 use Rattle.listing.proofs.TextLaws.{answers_same}
 use Rattle.listing.proofs.ListingLaws.{accepted_short, zeros, zeros_long}
 use Rattle.listing.proofs.SmallLaws.{number_below, packed_apart, packed_some}
@@ -69,15 +73,49 @@ listing = record {
   longer = longer_text;
 }
 
+-- what the contract of `list` says of a call: how many bytes of the text, and what the buffer holds afterwards
+pub record Listed (b out after : List ℕ) (r : ℕ) : Type 0 where
+  pub within : IsPrefixLen r after
+  pub text : take r after ≡ listing_of b
+  pub later : drop r after ≡ drop r out
+
+pub promised : (κs : Lfts 2) (a : ArgsD signature κs) (r : ResD signature κs)
+    (s : AtExit (ended_of 2 kinds.ps kinds.r) κs) →
+    reads.Post κs a r s → Listed a.0.now a.1.0.now s.1.0.now r
+promised κs a r s p = record { within = p.0; text = p.1.0; later = p.1.1 }
+
+-- two calls that it admits, of one book, leave the same text, whatever their buffers held
+pub listed_same : (b out after other left : List ℕ) (r s : ℕ) → Listed b out after r → Listed b other left s →
+    (r ≡ s) × (take r after ≡ take s left)
+listed_same b out after other left r s P Q =
+    let same : take r after ≡ take s left = P.text ∙ sym Q.text in
+    (P.within.1 ∙ ap length same ∙ sym Q.within.1, same)
+
+-- and of one buffer write the same
+pub listed_unique : (b out after other : List ℕ) (r s : ℕ) → Listed b out after r → Listed b out other s →
+    (r ≡ s) × (after ≡ other)
+listed_unique b out after other r s P Q = (same, whole)
+  where
+    same : r ≡ s
+    same = (listed_same b out after out other r s P Q).0
+
+    whole : after ≡ other
+    whole =
+        sym (take-append-drop r after) ∙
+        ap₂ (λ (x y : List ℕ). x ++ y) (P.text ∙ sym Q.text)
+        (P.later ∙ ap (λ (i : ℕ). drop i out) same ∙ sym Q.later) ∙
+        take-append-drop s other
+
 module _ (κs : Lfts 2) where
-  -- what the contract of `list` says of a call: its text is the book's
-  pub promised : (a : ArgsD signature κs) (r : ResD signature κs) (s : AtExit (ended_of 2 kinds.ps kinds.r) κs) →
-      reads.Post κs a r s → s.1.0.now.bytes ≡ listing_of a.0.now
-  promised a r s p = p
+  -- what the contract of `list_text` says of a call: its text is the book's
+  pub text_promised : (a : ArgsD text.signature κs) (r : ResD text.signature κs)
+      (s : AtExit (ended_of 2 text_kinds.ps text_kinds.r) κs) → text_reads.Post κs a r s →
+      s.1.0.now.bytes ≡ listing_of a.0.now
+  text_promised a r s p = p
 
   -- two calls that it admits, of one book, leave the same text
-  pub listed_unique : (a other : ArgsD signature κs) (r q : ResD signature κs)
-      (s t : AtExit (ended_of 2 kinds.ps kinds.r) κs) → a.0.now ≡ other.0.now →
-      reads.Post κs a r s → reads.Post κs other q t → s.1.0.now.bytes ≡ t.1.0.now.bytes
-  listed_unique a other r q s t e first second =
-      promised a r s first ∙ ap listing_of e ∙ sym (promised other q t second)
+  pub text_unique : (a other : ArgsD text.signature κs) (r q : ResD text.signature κs)
+      (s t : AtExit (ended_of 2 text_kinds.ps text_kinds.r) κs) → a.0.now ≡ other.0.now →
+      text_reads.Post κs a r s → text_reads.Post κs other q t → s.1.0.now.bytes ≡ t.1.0.now.bytes
+  text_unique a other r q s t e first second =
+      text_promised a r s first ∙ ap listing_of e ∙ sym (text_promised other q t second)

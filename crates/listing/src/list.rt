@@ -1,10 +1,12 @@
-// The listing of a book, as one text.
-ghost use Rattle.std.specs.Prelude.{◌≡◌, ◌+◌, ◌*◌, ◌≤◌, ◌++◌, length};
+// The listing of a book, as one text, and into a buffer that the caller lends.
+ghost use Rattle.std.specs.Prelude.{◌≡◌, ◌+◌, ◌*◌, ◌≤◌, ◌++◌, length, take, drop};
+ghost use Rattle.std.specs.Counts.{IsPrefixLen};
 ghost use Rattle.meaning.specs.Format.{atom_count};
 ghost use Rattle.meaning.specs.Demands.{Accepted};
 ghost use Rattle.listing.specs.Text.{answers_text, lines_of, listing_of, packed_text, room_length};
 ghost use Rattle.listing.specs.Widths.{HasRoom, head_most, line_most, refused_most};
 
+pub use crate::text::TEXT;
 use crate::text::{Text, put_line, put_refused};
 use book::readers::count_of;
 use book::tables::ATOMS;
@@ -60,7 +62,7 @@ fn atoms_of(book: &[u8]) -> usize
 
 // What the program prints for a book, in place of what the text held.
 #[tactic(auto, using(crate::proofs::ListingLaws::listed))]
-pub fn list(book: &[u8], text: &mut Text)
+pub fn list_text(book: &[u8], text: &mut Text)
     ensures { text.new.bytes ≡ listing_of book.now }
 {
     let mut room = [0u8; ROOM];
@@ -69,4 +71,17 @@ pub fn list(book: &[u8], text: &mut Text)
         0 => put_answers(text, &room[..atoms_of(book)]),
         packed => put_packed(text, packed),
     }
+}
+
+// What the program prints for a book, at the start of the buffer; later bytes stay.
+pub fn list(book: &[u8], out: &mut [u8; TEXT]) -> usize
+    ensures within { IsPrefixLen result out.new }
+    ensures text { take result out.new ≡ listing_of book.now }
+    ensures later { drop result out.new ≡ drop result out.old }
+{
+    let mut text = Text::new();
+    list_text(book, &mut text);
+    let bytes = text.as_str().as_bytes();
+    out[..bytes.len()].copy_from_slice(bytes);
+    bytes.len()
 }

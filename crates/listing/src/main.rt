@@ -11,8 +11,7 @@ mod list;
 mod text;
 
 use crate::input::read_input;
-use crate::list::list;
-use crate::text::Text;
+use crate::list::{TEXT, list};
 use std::io::{Read, Write};
 use thiserror::Error;
 
@@ -36,10 +35,10 @@ fn run<R: Read, W: Write>(reader: &mut R, writer: &mut W) -> Result<(), Failure>
 {
     let mut book = [0u8; BOOK];
     let n = read_input(reader, &mut book).map_err(|_| Failure::Unread)?;
-    let mut text = Text::new();
-    list(&book[..n], &mut text);
+    let mut out = [0u8; TEXT];
+    let end = list(&book[..n], &mut out);
     writer
-        .write_all(text.as_str().as_bytes())
+        .write_all(&out[..end])
         .map_err(|_| Failure::Unwritten)
 }
 

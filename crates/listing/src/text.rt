@@ -11,13 +11,13 @@ use itoa::Buffer;
 use theory::answer::Truth;
 
 // The text is always long enough: a first line of at most 29 bytes, and 2,048 lines of at most 31.
-const TEXT: usize = 65536;
+pub const TEXT: usize = 65536;
 
 pub type Text = ArrayString<TEXT>;
 
 // A number after a single space.
 #[tactic(auto, using(crate::proofs::TextLaws::pieces), unfolding(crate::specs::Text::spaced))]
-fn put_spaced(text: &mut Text, n: u32)
+pub fn put_spaced(text: &mut Text, n: u32)
     requires { HasRoom text.old spaced_most }
     ensures spaced { text.new.bytes ≡ text.old.bytes ++ spaced n }
     ensures short { array_string_len text.new ≤ array_string_len text.old + spaced_most }
