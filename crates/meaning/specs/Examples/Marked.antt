@@ -113,7 +113,7 @@ unfoldable pub kinds : List Example
 kinds =
     -- accepted, no atoms
     accepted empty []
-    -- t Certain or Closed: false. Complete or open: undefined.
+    -- t certain or closed: false. Complete or open: undefined.
     ∷ accepted (three_of Certain) (true ∷ true ∷ false ∷ [])
     ∷ accepted (three_of Closed) (true ∷ true ∷ false ∷ [])
     ∷ accepted (three_of Complete) (true ∷ true ∷ undefined ∷ [])
@@ -130,7 +130,7 @@ kinds =
 -- marked: loops
 unfoldable pub loops : List Example
 loops =
-    -- p ← p: Complete undefined, Closed false, Certain false. p ← not p, Closed: undefined.
+    -- p ← p: complete undefined, closed false, certain false. p ← not p, closed: undefined.
     accepted (alone Complete (is 0)) (undefined ∷ [])
     ∷ accepted (alone Closed (is 0)) (false ∷ [])
     ∷ accepted (alone Certain (is 0)) (false ∷ [])

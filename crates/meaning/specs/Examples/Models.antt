@@ -236,7 +236,7 @@ rounds =
     ∷ accepted (groundless Open) (undefined ∷ undefined ∷ undefined ∷ [])
     ∷ accepted (groundless Complete) (false ∷ false ∷ false ∷ [])
     ∷ accepted (groundless Closed) (false ∷ false ∷ false ∷ [])
-    -- a Certain fact at level 1
+    -- a certain fact at level 1
     ∷ accepted fact_above (false ∷ true ∷ [])
     -- a is false when its level is finished, and not before
     ∷ accepted until_finished (false ∷ false ∷ true ∷ [])

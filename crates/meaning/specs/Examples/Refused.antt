@@ -125,7 +125,7 @@ records =
     ∷ refused (given_unconcluded Closed) 7_2_000001
     ∷ refused (given_concluded 1) 7_2_000001
     ∷ refused (given_concluded 2) 7_2_000001
-    -- 8: a predicate shares its level with a lower-numbered one, one Certain and the other uncertain
+    -- 8: a predicate shares its level with a lower-numbered one, one certain and the other uncertain
     ∷ refused (book (predicate Complete 0 ∷ predicate Certain 1 ∷ predicate Certain 0 ∷ []) [] []) 8_1_000002
     ∷ refused (book (predicate Certain 0 ∷ predicate Certain 1 ∷ predicate Open 1 ∷ []) [] []) 8_1_000002
     ∷ []
@@ -137,7 +137,7 @@ rules =
     refused (upward is) 9_3_000001
     ∷ refused (upward not) 9_3_000001
     ∷ refused (upward λ b. count (Plain b ∷ []) Ge 1) 9_3_000001
-    -- 11: the head is Certain and uses an uncertain predicate
+    -- 11: the head is certain and uses an uncertain predicate
     ∷ refused (uncertain is) 11_3_000001
     ∷ refused (uncertain not) 11_3_000001
     ∷ refused (uncertain λ q. count (Plain q ∷ []) Ge 1) 11_3_000001
@@ -148,7 +148,7 @@ rules =
 -- 10: the head is certain and uses a predicate of its own level non-positively
 unfoldable pub positively : List Example
 positively =
-    -- Positive use: a Plain atom; sign 0 in count >, ≥, max >, ≥, min <, ≤; sign 1 in count <, ≤.
+    -- Positive use: a plain atom; sign 0 in count >, ≥, max >, ≥, min <, ≤; sign 1 in count <, ≤.
     accepted (own_level is) (true ∷ true ∷ [])
     ∷ accepted (own_level (over Aggregate.Count Plain Gt 0)) (true ∷ true ∷ [])
     ∷ accepted (own_level (over Aggregate.Count Plain Ge 1)) (true ∷ true ∷ [])
@@ -158,7 +158,7 @@ positively =
     ∷ accepted (own_level (over Aggregate.Min Plain Le 1)) (true ∷ true ∷ [])
     ∷ accepted (own_level (over Aggregate.Count Negated Lt 1)) (true ∷ true ∷ [])
     ∷ accepted (own_level (over Aggregate.Count Negated Le 0)) (true ∷ true ∷ [])
-    -- not a Plain atom
+    -- not a plain atom
     ∷ refused (own_level not) 10_3_000001
     ∷ []
 
@@ -195,7 +195,7 @@ order =
     ∷ refused (set_byte 2 3 0 2 (set_byte 6 3 0 2 whole)) 4_6_000003
     ∷ refused (set_byte 6 3 1 0 (set_byte 4 2 1 4 whole)) 5_4_000002
     ∷ refused (set_byte 2 2 2 1 (set_byte 6 3 1 0 whole)) 6_5_000001
-    -- 7 before 8: a Certain atom that is given, and an open predicate of the same level
+    -- 7 before 8: a certain atom that is given, and an open predicate of the same level
     ∷ refused (book (predicate Certain 0 ∷ predicate Open 0 ∷ []) (atom 1 ∷ given 0 1 ∷ []) []) 7_2_000001
     -- 8 before 9: mixed predicates, and a rule that uses a higher level
     ∷ refused
