@@ -51,7 +51,8 @@ module _ (b : List ℕ) (I : Indexed b) (h : ℕ) (n : h < hypothesis_count b) (
 
   pub literal_within : (W : List Truth) (l : Literal) → atom_count b ≤ length W → literal_in x.sort x.index ≡ Some l →
       atom_of l < length W
-  literal_within W l m e = omega (arith, m, atom_below x.sort x.index (atom_count b) (comparison_count b) l e index_within)
+  literal_within W l m e =
+      omega (arith, m, atom_below x.sort x.index (atom_count b) (comparison_count b) l e index_within)
 
   pub comparison_within : literal_in x.sort x.index ≡ None → x.index < comparison_count b
   comparison_within e = comparison_below x.sort x.index (atom_count b) (comparison_count b) e index_within

@@ -88,7 +88,8 @@ impl<'a> Assumption<'a> {
         false
     }
 
-    // The same of block k. It stays a call: a block is 64 hypotheses, and the loops over rules are the shorter without it.
+    // The same of block k. It stays a call: a block is 64 hypotheses, and the loops over rules are the shorter without
+    // it.
     #[inline(never)]
     #[tactic(auto, using(crate::proofs::KnownLaws::block_clear))]
     fn block_fails(&mut self, k: usize) -> bool
